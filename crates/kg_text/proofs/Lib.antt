@@ -1,0 +1,5 @@
+pub mod DotLemmas
+pub mod EscapeLemmas
+pub mod NameLemmas
+pub mod PathLemmas
+pub mod SegmentLemmas

@@ -1,0 +1,28 @@
+//! The texts and lists that the whole gateway shares: header names, paths in normal form, and the
+//! errors of reading them.
+//!
+//! Everything here is a function of bytes. Nothing does IO, and what takes memory says so.
+#![tactic(auto)]
+
+mod bytes;
+mod copy;
+mod error;
+mod escape;
+mod list;
+mod name;
+mod pair;
+mod path;
+mod segment;
+mod text;
+
+pub use crate::bytes::Bytes;
+pub use crate::copy::CopyKey;
+pub use crate::error::{NoMemory, TextError};
+pub use crate::list::List;
+pub use crate::name::Name;
+pub use crate::pair::Pair;
+pub use crate::path::{is_normal, normalise};
+pub use crate::text::Text;
+
+#[cfg(test)]
+mod tests;

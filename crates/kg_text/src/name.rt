@@ -1,0 +1,120 @@
+//! The name of a header field (RFC 9110, section 5.1).
+
+ghost use Rattle.std.specs.Prelude.{◌≡◌, ◌↔◌, IsTrue, IfOk, length, nat_eq};
+ghost use Rattle.std.specs.List.{prefix_len};
+ghost use Rattle.std.specs.Str.{str_to_ascii_lowercase};
+ghost use Rattle.std.specs.Cmp.Lexicographic.{pointwise, nat_list_eq_equiv};
+ghost use Rattle.std.specs.Cmp.{partial_equiv_from_equiv};
+ghost use Rattle.kg_text.specs.Names.{is_tchar, is_token, name_of};
+ghost use Rattle.kg_text.specs.Reading.{Gives};
+
+use crate::error::{NoMemory, TextError};
+use std::alloc::{AllocError, Global};
+use std::marker::Model;
+
+/// The name of a header field, kept in lower case. Contracts see it as its bytes.
+#[derive(Debug, Drop)]
+pub struct Name {
+    raw: Vec<u8>,
+}
+
+impl Model for Name {
+    ghost use Rattle.std.specs.Prelude.{List, ℕ};
+    ghost use Rattle.kg_text.specs.Names.{IsName};
+
+    ghost Value = { List ℕ };
+
+    ghost view = { λ name. name.raw.items };
+
+    ghost invariant = { λ name. IsName name.raw.items };
+}
+
+impl Name {
+    /// Reads a name in any case. `Bad` tells the first byte that can't stand in a name.
+    pub fn of(alloc: Global, raw: &[u8]) -> Result<Name, TextError>
+        ensures { Gives result (name_of raw.now) }
+    {
+        let at = token_len(raw);
+        if raw.is_empty() || at < raw.len() {
+            return Err(TextError::Bad { at });
+        }
+        Ok(Name::of_token(alloc, raw)?)
+    }
+
+    /// The name of a text that is known to be a token.
+    pub fn of_token(alloc: Global, raw: &[u8]) -> Result<Name, NoMemory>
+        requires { IsTrue (is_token raw.now) }
+        ensures { IfOk result (λ name. name ≡ str_to_ascii_lowercase raw.now) }
+    {
+        Ok(Name {
+            raw: lower_case(alloc, raw)?,
+        })
+    }
+
+    /// A copy of the name.
+    pub fn copy(&self, alloc: Global) -> Result<Name, NoMemory>
+        ensures { IfOk result (λ name. name ≡ self.now) }
+    {
+        Ok(Name {
+            raw: Vec::from_slice(alloc, self.raw.as_slice())?,
+        })
+    }
+
+    /// The bytes, in lower case.
+    pub fn bytes(&self) -> &[u8]
+        ensures { result.now ≡ self.now }
+    {
+        self.raw.as_slice()
+    }
+
+    /// Is this the name that `raw` spells, in any case?
+    pub fn same(&self, raw: &[u8]) -> bool
+        ensures { IsTrue result ↔ (self.now ≡ str_to_ascii_lowercase raw.now) }
+    {
+        is_lower_case_of(self.raw.as_slice(), raw)
+    }
+}
+
+impl PartialEq for Name {
+    ghost eq = { pointwise nat_eq };
+
+    ghost laws = { partial_equiv_from_equiv nat_list_eq_equiv };
+
+    fn eq(&self, other: &Name) -> bool {
+        self.bytes() == other.bytes()
+    }
+}
+
+impl Eq for Name {
+    ghost laws = { nat_list_eq_equiv };
+}
+
+// How many bytes from the front may stand in a token.
+fn token_len(raw: &[u8]) -> usize
+    ensures { result ≡ prefix_len is_tchar raw.now }
+{
+    raw.iter().take_while(|b| is_tchar(**b)).count()
+}
+
+// A tchar: a letter, a digit or one of fifteen marks.
+fn is_tchar(b: u8) -> bool
+    ensures { result ≡ is_tchar b }
+{
+    b.is_ascii_alphanumeric() || b"!#$%&'*+-.^_`|~".contains(&b)
+}
+
+fn lower_case(alloc: Global, raw: &[u8]) -> Result<Vec<u8>, AllocError>
+    ensures { IfOk result (λ v. v.items ≡ str_to_ascii_lowercase raw.now) }
+{
+    raw.iter().map(|b| b.to_ascii_lowercase()).collect(alloc)
+}
+
+fn is_lower_case_of(lower: &[u8], raw: &[u8]) -> bool
+    ensures { IsTrue result ↔ (lower.now ≡ str_to_ascii_lowercase raw.now) }
+{
+    lower.len() == raw.len()
+        && lower
+            .iter()
+            .zip(raw)
+            .all(|(a, b)| *a == b.to_ascii_lowercase())
+}

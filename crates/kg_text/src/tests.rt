@@ -1,0 +1,110 @@
+ghost use Rattle.std.specs.Prelude.{◌≡◌, [], ◌∷◌, IfOk};
+
+use crate::{Bytes, CopyKey, List, Name, NoMemory, Pair, Text, TextError, is_normal, normalise};
+use std::alloc::Global;
+use std::test::Fail;
+
+#[test]
+fn paths_hosts_pairs_and_names_are_normal(rt: HostRuntime) -> Result<(), Fail> {
+    let alloc = rt.alloc();
+    // The third and the fourth are the examples of RFC 3986, sections 6.2.2 and 5.2.4.
+    for (path, form) in [
+        ("/", "/"),
+        ("/a//b/%7e/../c%2f", "/a/b/c%2F"),
+        ("/./b/../b/%63/%7bfoo%7d", "/b/c/%7Bfoo%7D"),
+        ("/a/b/c/./../../g", "/a/g"),
+        ("/..", "/"),
+        ("/a/./b/", "/a/b/"),
+        ("/a/b/..", "/a/"),
+        ("/a/b/.", "/a/b/"),
+        ("/a/%2E%2e/%2e", "/"),
+        ("/%%37e", "/%7e"),
+        ("/%7e", "/~"),
+        ("/%zz", "/%zz"),
+        ("/%4", "/%4"),
+        ("/.../..b", "/.../..b"),
+    ] {
+        let text = normalise(alloc, path.as_bytes())?;
+        assert!(rt; text.as_bytes() == form.as_bytes(), "{path}");
+        let same = path.as_bytes() == form.as_bytes();
+        assert!(rt; is_normal(path.as_bytes()) == same, "{path}");
+    }
+    for (path, at) in [
+        ("", 0),
+        ("a", 0),
+        ("/a?", 2),
+        ("/a#", 2),
+        ("/a b", 2),
+        ("/\u{e9}", 1),
+    ] {
+        let refused = normalise(alloc, path.as_bytes()).err();
+        assert_eq!(rt; refused, Some(TextError::Bad { at }), "{path}");
+        assert!(rt; !is_normal(path.as_bytes()), "{path}");
+    }
+
+    let name = Name::of(alloc, b"X-A")?;
+    assert!(rt; name.bytes() == b"x-a".as_slice());
+    assert!(rt; name.same(b"X-a"));
+    assert!(rt; !name.same(b"x-b"));
+    assert!(rt; name == Name::of_token(alloc, b"x-A")?);
+    for (raw, at) in [("", 0), ("x a", 1), ("a:", 1), ("\u{e9}", 0)] {
+        let refused = Name::of(alloc, raw.as_bytes()).err();
+        assert_eq!(rt; refused, Some(TextError::Bad { at }), "{raw}");
+    }
+    Ok(())
+}
+
+fn copy_of<K: CopyKey>(alloc: Global, key: &K) -> Result<K, NoMemory>
+    ensures { IfOk result (λ copy. copy ≡ key.now) }
+{
+    key.copy(alloc)
+}
+
+fn list_of<T: Drop>(alloc: Global, first: T, second: T) -> Result<List<T>, NoMemory>
+    ensures { IfOk result (λ list. list ≡ first ∷ second ∷ []) }
+{
+    let mut list = List::new(alloc);
+    list.push(first)?;
+    list.push(second)?;
+    Ok(list)
+}
+
+#[test]
+fn answers_are_given_with_ample_memory(rt: HostRuntime) -> Result<(), Fail> {
+    let alloc = rt.alloc();
+    let text = Text::from_str(alloc, "\u{e9}t\u{e9}")?;
+    assert!(rt; copy_of(alloc, &text)? == text);
+    let mut bytes = Bytes::from_slice(alloc, b"ab")?;
+    bytes.push(0xFF)?;
+    bytes.extend_from_slice(b"cd")?;
+    assert!(rt; bytes.as_slice() == b"ab\xFFcd".as_slice());
+    assert!(rt; copy_of(alloc, &bytes)? == bytes);
+
+    let mut list = list_of(alloc, 1u32, 2)?;
+    assert!(rt; list == list_of(alloc, 1, 2)?);
+    assert!(rt; list.as_slice() == [1, 2].as_slice());
+    assert_eq!(rt; list.get(1).copied(), Some(2));
+    assert_eq!(rt;
+        (list.pop(), list.pop(), list.pop()),
+        (Some(2), Some(1), None)
+    );
+    assert!(rt; list.is_empty());
+
+    let name = Text::from_str(alloc, "a")?;
+    let pair = Pair {
+        name,
+        value: Text::new(alloc),
+    };
+    assert!(rt; pair.name.as_str() == "a" && pair.value.is_empty());
+    Ok(())
+}
+
+#[test]
+fn errors_tell_what_is_wrong(rt: HostRuntime) -> Result<(), Fail> {
+    let alloc = rt.alloc();
+    let bad = format!(in alloc; "{}", TextError::Bad { at: 2 })?;
+    assert!(rt; bad.as_str() == "the byte at 2 can't stand there");
+    let none = format!(in alloc; "{}, {}", TextError::NoMemory, NoMemory)?;
+    assert!(rt; none.as_str() == "out of memory, out of memory");
+    Ok(())
+}
