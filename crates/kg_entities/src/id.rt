@@ -1,0 +1,151 @@
+//! Ids of rows: UUIDs (RFC 9562).
+
+ghost use Rattle.std.specs.Prelude.{◌≡◌, ℕ, ◌<◌, ◌≤◌, ◌^◌, IfOk, Some, length};
+ghost use Rattle.std.specs.Int.{to_be_bytes, w128};
+ghost use Rattle.uuid.specs.Text.{hyphenated_text, lower};
+ghost use Rattle.kg_entities.specs.Ids.{id_of, printed, drawn_id};
+
+use kg_text::{NoMemory, Text};
+use std::alloc::Global;
+use std::marker::Model;
+use uuid::fmt::Hyphenated;
+use uuid::{Builder, Uuid};
+
+/// The id of a row, a UUID. Contracts see it as the number below 2^128 that its 16 bytes spell,
+/// the most significant byte first. Ids are ordered as these numbers.
+#[derive(Clone, Copy, Debug, PartialEq, Eq, PartialOrd, Ord, Hash)]
+pub struct Id {
+    number: u128,
+}
+
+impl Model for Id {
+    ghost use Rattle.std.specs.Prelude.{ℕ};
+
+    ghost Value = { ℕ };
+
+    ghost view = { λ id. id.number };
+
+    ghost inverse = { λ n. record { number = n } };
+}
+
+impl Id {
+    /// The id that a text tells: 32 hexadecimal digits, hyphenated or not, in braces, or after
+    /// `urn:uuid:`, in any case.
+    #[tactic(auto, unfolding(crate::specs::Ids::id_of))]
+    pub fn parse(text: &[u8]) -> Option<Id>
+        ensures { result ≡ id_of text.now }
+    {
+        match Uuid::try_parse_ascii(text) {
+            Ok(uuid) => Some(Id {
+                number: uuid.as_u128(),
+            }),
+            Err(_) => None,
+        }
+    }
+
+    /// The id of version 4 that 16 random bytes give: all their bits but the six of the version
+    /// and the variant.
+    #[tactic(auto, unfolding(crate::specs::Ids::drawn_id))]
+    pub fn from_drawn(bytes: [u8; 16]) -> Id
+        ensures { result ≡ drawn_id bytes }
+    {
+        Id {
+            number: Builder::from_random_bytes(bytes).into_uuid().as_u128(),
+        }
+    }
+
+    /// The id as a number.
+    pub fn number(self) -> u128
+        ensures value { result ≡ self }
+        ensures within { self < 2 ^ 128 }
+    {
+        self.number
+    }
+
+    /// The id printed: hyphenated, in lower case.
+    pub fn to_text(self, alloc: Global) -> Result<Text, NoMemory>
+        ensures { IfOk result (λ text. text ≡ printed self) }
+    {
+        let mut buffer = Uuid::encode_buffer();
+        let form = self.uuid().hyphenated();
+        Text::from_str(alloc, in_lower_case(&form, &mut buffer))
+    }
+
+    fn uuid(self) -> Uuid
+        ensures { result ≡ to_be_bytes w128 self }
+    {
+        Uuid::from_u128(self.number)
+    }
+}
+
+fn in_lower_case<'b>(form: &Hyphenated, buffer: &'b mut [u8]) -> &'b str
+    requires { 36 ≤ length buffer.old }
+    ensures { result.now ≡ hyphenated_text lower form.now }
+{
+    form.encode_lower(buffer)
+}
+
+/// A printed id is read back as the same id: a law, for proofs.
+pub fn printed_id_is_read_back()
+    ensures { (id : ℕ) → id < 2 ^ 128 → id_of (printed id) ≡ Some id }
+{}
+
+#[cfg(test)]
+mod tests {
+    use super::*;
+    use std::test::Fail;
+
+    // The id of the number 3, drawn and parsed.
+    const THIRD: &str = "00000000-0000-4000-8000-000000000003";
+
+    // Fifteen zeros and then `last`.
+    fn drawn(last: u8) -> Id {
+        Id::from_drawn([0, 0, 0, 0, 0, 0, 0, 0, 0, 0, 0, 0, 0, 0, 0, last])
+    }
+
+    #[test]
+    fn answers_are_given_with_ample_memory(rt: HostRuntime) -> Result<(), Fail> {
+        assert_eq!(rt; drawn(3).to_text(rt.alloc())?.as_str(), THIRD);
+        Ok(())
+    }
+
+    #[test]
+    fn each_form_tells_the_same_id(rt: HostRuntime) {
+        let id = Id::parse(b"f81d4fae-7dec-11d0-a765-00a0c91e6bf6");
+        assert!(rt; id.is_some());
+        for text in [
+            "F81D4FAE-7DEC-11D0-A765-00A0C91E6BF6",
+            "f81d4fae7dec11d0a76500a0c91e6bf6",
+            "{f81d4fae-7dec-11d0-a765-00a0c91e6bf6}",
+            "urn:uuid:f81d4fae-7dec-11d0-a765-00a0c91e6bf6",
+            "URN:UUID:F81D4fae-7dec-11d0-a765-00a0c91e6bf6",
+        ] {
+            assert_eq!(rt; Id::parse(text.as_bytes()), id, "{text}");
+        }
+    }
+
+    #[test]
+    fn other_texts_tell_no_id(rt: HostRuntime) {
+        for text in [
+            "",
+            "orders",
+            "f81d4fae-7dec-11d0-a765-00a0c91e6bf",
+            "f81d4fae-7dec-11d0-a765-00a0c91e6bf60",
+            "f81d4fae-7dec-11d0-a765-00a0c91e6bfg",
+            "f81d4fae-7dec-11d0a-765-00a0c91e6bf6",
+            "{f81d4fae7dec11d0a76500a0c91e6bf6}",
+            "urn:f81d4fae-7dec-11d0-a765-00a0c91e6bf6",
+        ] {
+            assert_eq!(rt; Id::parse(text.as_bytes()), None, "{text}");
+        }
+    }
+
+    #[test]
+    fn ids_are_ordered_as_numbers(rt: HostRuntime) -> Result<(), Fail> {
+        let low = Id::parse(b"00000000-0000-0000-0000-000000000100").ok_or("low")?;
+        let high = Id::parse(b"01000000-0000-0000-0000-000000000000").ok_or("high")?;
+        assert_eq!(rt; low.number(), 256);
+        assert!(rt; low < high && drawn(255) > drawn(3), "{low:?}, {high:?}");
+        Ok(())
+    }
+}
