@@ -1,0 +1,19 @@
+use Rattle.std.proofs.Common.{◌≡◌, ◌≤◌, ◌-◌, None}
+use Rattle.kg_outside.specs.Moves.{with_front}
+use Rattle.kg_lone.specs.Answered.{Answered}
+use Rattle.kg_lone.specs.DryText.{local_address, most_requests}
+use Rattle.kg_lone.proofs.dry.answer_all.Given as goal
+
+abbrev pub invariant-loop-count : goal.invariant-loop-count
+invariant-loop-count g l = record {
+  goes_on : l.reader.error ≡ None;
+  address : l.reader.address ≡ local_address;
+  few : l.count ≤ most_requests;
+  answered : Answered l.router (g.T.Clock.reads l.initial.clock l.clock) (g.S.Source.left l.initial.source)
+      (with_front l.reader.held (g.S.Source.left l.source)) (g.K.Sink.written l.initial.sink) (g.K.Sink.written l.sink) l.count;
+  kept_read : g.S.Source.faults l.source ≡ g.S.Source.faults l.initial.source;
+  kept_write : g.K.Sink.faults l.sink ≡ g.K.Sink.faults l.initial.sink;
+}
+
+abbrev pub decreases-loop-count : goal.decreases-loop-count
+decreases-loop-count g l = most_requests - l.count

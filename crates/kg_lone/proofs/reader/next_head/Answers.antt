@@ -1,0 +1,25 @@
+use Rattle.std.proofs.Common.{◌≡◌, None, refl, sym, ap, ◌∙◌}
+use Rattle.kg_lone.specs.Messages.{head_of, body_len}
+use Rattle.kg_lone.specs.Reading.{head_at}
+use Rattle.kg_lone.proofs.JudgeLemmas.{head_some}
+use Rattle.kg_lone.proofs.ReaderLemmas.{names_are_tokens, head_at-head_of, never_passes}
+use Rattle.kg_lone.proofs.reader.next_head.Goals as goal
+
+pub copy_head-requires-clause-names : goal.copy_head-requires-clause-names
+copy_head-requires-clause-names g c =
+    let found = rw c.in-Some.is at c.in_ok-spans.ensures.ok in
+    rw c.as_slice.ensures
+    (names_are_tokens c.find_head.new.held c.find_head.new.room c.in-Some.spans found.0.2.0 found.0.2.1)
+
+pub returns-in-None-body_len-clause-err : goal.returns-in-None-body_len-clause-err
+returns-in-None-body_len-clause-err g c =
+    let found = rw c.in-Some.is at c.in_ok-spans.ensures.ok in
+    let held = c.find_head.new.held in
+    let head = found.0.2.0 in
+    let there = found.0.2.1 in
+    let copied : c.in_ok-head.head ≡ head_at held c.find_head.new.room c.in-Some.spans =
+    rw (← c.as_slice.ensures) c.in_ok-head.ensures in
+    let fails : body_len (head_of head) ≡ None =
+    ap body_len (sym (copied ∙ head_at-head_of held c.find_head.new.room c.in-Some.spans head there))
+    ∙ sym c.body_len.ensures ∙ c.in-None-body_len.is in
+    (found.1, (refl, head_some held head _ there.reads, never_passes held head _ there.reads fails))

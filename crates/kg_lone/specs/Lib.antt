@@ -1,0 +1,17 @@
+pub mod Answered
+pub mod Best
+pub mod Declaration
+pub mod DryRun
+pub mod DryText
+pub mod Echo
+pub mod Fits
+pub mod GatewayMessage
+pub mod HeaderLists
+pub mod HopByHop
+pub mod Messages
+pub mod Plain
+pub mod Reading
+pub mod ReplyText
+pub mod Rows
+pub mod UpstreamPath
+pub mod UpstreamText
