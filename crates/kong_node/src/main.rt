@@ -1,0 +1,88 @@
+//! The program `kong_node`: hands its words and the standard streams to `run`.
+#![tactic(auto)]
+
+mod input;
+mod output;
+mod words;
+
+use crate::input::Input;
+use crate::output::Output;
+use crate::words::{Words, words_of};
+use kg_lone::run;
+use kg_outside::{CountIds, StillClock};
+use kg_text::{List, Text};
+use std::io::{self, BufReader};
+use std::process::ExitCode;
+
+// The status of a run with other words.
+const OTHER_WORDS: u8 = 2;
+
+// The status of a run whose output could not be written.
+const WRITE_FAULT: u8 = 5;
+
+// The status of a run without memory.
+const OUT_OF_MEMORY: u8 = 6;
+
+// How many bytes are asked of standard input at once.
+const PIECE: usize = 65_536;
+
+const HELP: &str = "\
+usage: kong_node dry < FILE
+       kong_node --help | --version
+
+dry   The first line of standard input declares services and routes (a JSON object in Kong's
+      declarative format 3.0). The HTTP/1.1 requests after it are routed, and the reply to each
+      is written to standard output. The upstream of every service is an echo: it answers with
+      the request that it was sent.
+
+Exit status of dry: 0 every request was answered; 3 the first line was refused; 7 bytes are left
+that begin no request; 4 a fault of standard input; 5 a fault of standard output; 6 want of memory.
+Other words are 2.
+";
+
+const VERSION: &str = "kong_node 0.1.0\n";
+
+fn main(rt: HostRuntime) -> ExitCode {
+    ExitCode::from(status(&rt))
+}
+
+// Runs the command that the program's words name.
+fn status(rt: &HostRuntime) -> u8 {
+    match words_of(rt) {
+        Words::These(words) => answer(rt, &words),
+        Words::NotText => OTHER_WORDS,
+        Words::NoMemory => OUT_OF_MEMORY,
+    }
+}
+
+fn answer(rt: &HostRuntime, words: &List<Text>) -> u8 {
+    match words.as_slice() {
+        [word] if word.as_str() == "--help" => show(rt, HELP),
+        [word] if word.as_str() == "--version" => show(rt, VERSION),
+        _ => command(rt, words),
+    }
+}
+
+// Writes a text to standard output.
+fn show(rt: &HostRuntime, text: &str) -> u8 {
+    match rt.print(text) {
+        Ok(()) => 0,
+        Err(_) => WRITE_FAULT,
+    }
+}
+
+fn command(rt: &HostRuntime, words: &List<Text>) -> u8 {
+    let Ok(reader) = BufReader::with_capacity(rt.alloc(), PIECE, rt.stdin()) else {
+        return OUT_OF_MEMORY;
+    };
+    let mut source = Input::new(reader);
+    let mut sink = Output::new(io::writer(rt));
+    run(
+        rt.alloc(),
+        words,
+        &mut source,
+        &mut sink,
+        &mut StillClock(0),
+        &mut CountIds::new(),
+    )
+}
