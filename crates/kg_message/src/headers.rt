@@ -235,7 +235,7 @@ fn drop_later(fields: &mut Vec<Header>, name: &[u8])
     ensures { fields.new.items ≡ one_changed (is_named name.now) (λ field. field) fields.old.items }
 {
     let mut found = false;
-    fields.retain(|field| {
+    fields.retain(move |field| {
         let named = field.name.same(name);
         let later = found && named;
         found = found || named;
