@@ -5,7 +5,9 @@ use Rattle.std.specs.List.{position_or_len, list_any, count_by, items_where_true
 use Rattle.std.specs.List.Retain.{ReturnsInTurn, IsFiltered}
 use Rattle.std.proofs.lemmas.Bool.{cases_Bool, cond-false}
 use Rattle.std.proofs.lemmas.List.Sums.{sum_by-cons}
-use Rattle.kg_text.specs.ListChanges.{without, one_changed}
+use Rattle.std.proofs.lemmas.List.{length-map, length-take-le, drop_more, get_or_at}
+use Rattle.std.proofs.lemmas.List.Edits.{map_over_more}
+use Rattle.kg_text.specs.ListChanges.{without, one_changed, each_changed}
 
 -- ---- the first that passes is kept by a test that remembers whether it came
 
@@ -131,3 +133,31 @@ module _ {X : Type 0} (p : X → Bool) where
   count_from xs i d within =
       count_after xs i d within
       ∙ ap (λ n. cond (p (slice_index_or xs i d)) 1 0 + count_by p (drop n xs)) (one_more i)
+
+-- ---- those that pass are changed one after another
+
+module _ {X : Type 0} (p : X → Bool) (change : X → X) where
+  -- what wasn't reached yet is as it was
+  pub not_reached : (s xs : List X) (i : ℕ) (d : X) → i < length s
+      → xs ≡ each_changed p change (take i s) ++ drop i s → slice_index_or xs i d ≡ slice_index_or s i d
+  not_reached s xs i d within made =
+      let x = slice_index_or s i d in
+      let front = each_changed p change (take i s) in
+      let len : length front ≡ i =
+      length-map (take i s) (λ y. cond (p y) (change y) y) ∙ length-take-le i s (omega (arith, within)) in
+      ap (λ l. slice_index_or l i d) (made ∙ ap (λ l. front ++ l) (drop_more s i d within))
+      ∙ get_or_at front x (drop (i + 1) s) d i len
+
+  -- the next is changed, or stays
+  pub changed_further : (s xs : List X) (i : ℕ) (d : X) → i < length s
+      → xs ≡ each_changed p change (take i s) ++ drop i s
+      → slice_set xs i (cond (p (slice_index_or s i d)) (change (slice_index_or s i d)) (slice_index_or s i d))
+      ≡ each_changed p change (take (i + 1) s) ++ drop (i + 1) s
+  changed_further s xs i d within made =
+      map_over_more (λ y. cond (p y) (change y) y) s xs i (slice_index_or s i d) within made
+      (sym (not_reached s xs i (slice_index_or s i d) within made ∙ same_at s i (slice_index_or s i d) d within))
+    where
+      same_at : (l : List X) (i : ℕ) (c e : X) → i < length l → slice_index_or l i c ≡ slice_index_or l i e
+      same_at [] i c e within = absurd (omega (arith, within))
+      same_at (x ∷ l) zero c e within = refl
+      same_at (x ∷ l) (suc i) c e within = same_at l i c e (omega (arith, within))

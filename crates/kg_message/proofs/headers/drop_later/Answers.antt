@@ -2,7 +2,7 @@
 use Rattle.std.proofs.Common.{◌≡◌, refl, rules, tests}
 use Rattle.kg_text.proofs.ListChangeLemmas.{first_retained}
 use Rattle.kg_message.specs.HeaderLists.{is_named}
-use Rattle.kg_message.specs.contracts.fn.drop_later.retain as closure
+use Rattle.kg_message.specs.contracts.headers.fn.drop_later.retain as closure
 use Rattle.kg_message.proofs.headers.drop_later.Goals as goal
 
 pub returns : goal.returns
