@@ -1,5 +1,5 @@
 -- Changes of the members that pass a test, made step by step.
-use Rattle.std.proofs.Common.{◌≡◌, ℕ, ◌+◌, ◌<◌, zero, suc, Bool, true, false, not, ◌||◌, ◌&&◌, cond, List, [], ◌∷◌, ◌++◌, length, take, drop, filter, refl, sym, ap, ◌∙◌, arith, inl, inr}
+use Rattle.std.proofs.Common.{◌≡◌, ℕ, ◌+◌, ◌<◌, zero, suc, Bool, true, false, not, ◌||◌, ◌&&◌, cond, List, [], ◌∷◌, ◌++◌, length, take, drop, filter, refl, sym, ap, ◌∙◌, arith, inl, inr, zero-add}
 use Rattle.std.specs.Prelude.{slice_set, slice_index_or}
 use Rattle.std.specs.List.{position_or_len, list_any, count_by, items_where_true}
 use Rattle.std.specs.List.Retain.{ReturnsInTurn, IsFiltered}
@@ -127,14 +127,33 @@ module _ {X : Type 0} (p : X → Bool) where
   count_after (x ∷ xs) zero d within = sum_by-cons (λ y. cond (p y) 1 0) x xs
   count_after (x ∷ xs) (suc i) d within = count_after xs i d (omega (arith, within))
 
-  -- how many pass, from a place on
-  pub count_from : (xs : List X) (i : ℕ) (d : X) → i < length xs
+  count_from : (xs : List X) (i : ℕ) (d : X) → i < length xs
       → count_by p (drop i xs) ≡ cond (p (slice_index_or xs i d)) 1 0 + count_by p (drop (i + 1) xs)
   count_from xs i d within =
       count_after xs i d within
       ∙ ap (λ n. cond (p (slice_index_or xs i d)) 1 0 + count_by p (drop n xs)) (one_more i)
 
+  -- how many pass from a place on, where the one there does
+  pub count_here : (xs : List X) (i : ℕ) (d : X) → i < length xs → p (slice_index_or xs i d) ≡ true
+      → count_by p (drop i xs) ≡ 1 + count_by p (drop (i + 1) xs)
+  count_here xs i d within here =
+      count_from xs i d within ∙ ap (λ t. cond t 1 0 + count_by p (drop (i + 1) xs)) here
+
+  -- and where it doesn't
+  pub count_later : (xs : List X) (i : ℕ) (d : X) → i < length xs → p (slice_index_or xs i d) ≡ false
+      → count_by p (drop i xs) ≡ count_by p (drop (i + 1) xs)
+  count_later xs i d within later =
+      count_from xs i d within
+      ∙ ap (λ t. cond t 1 0 + count_by p (drop (i + 1) xs)) later
+      ∙ zero-add (count_by p (drop (i + 1) xs))
+
 -- ---- those that pass are changed one after another
+
+-- what stands at a place in the list doesn't depend on what would be read past its end
+pub same_at : {X : Type 0} (l : List X) (i : ℕ) (c e : X) → i < length l → slice_index_or l i c ≡ slice_index_or l i e
+same_at [] i c e within = absurd (omega (arith, within))
+same_at (x ∷ l) zero c e within = refl
+same_at (x ∷ l) (suc i) c e within = same_at l i c e (omega (arith, within))
 
 module _ {X : Type 0} (p : X → Bool) (change : X → X) where
   -- what wasn't reached yet is as it was
@@ -156,8 +175,3 @@ module _ {X : Type 0} (p : X → Bool) (change : X → X) where
   changed_further s xs i d within made =
       map_over_more (λ y. cond (p y) (change y) y) s xs i (slice_index_or s i d) within made
       (sym (not_reached s xs i (slice_index_or s i d) within made ∙ same_at s i (slice_index_or s i d) d within))
-    where
-      same_at : (l : List X) (i : ℕ) (c e : X) → i < length l → slice_index_or l i c ≡ slice_index_or l i e
-      same_at [] i c e within = absurd (omega (arith, within))
-      same_at (x ∷ l) zero c e within = refl
-      same_at (x ∷ l) (suc i) c e within = same_at l i c e (omega (arith, within))
