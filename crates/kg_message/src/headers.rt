@@ -106,9 +106,8 @@ impl Headers {
     pub fn lists(&self, name: &[u8], element: &[u8]) -> bool
         ensures { result ≡ lists name.now element.now self.now }
     {
-        self.fields
-            .iter()
-            .any(|field| field.name.same(name) && has_element(element, field.value.as_slice()))
+        self.fields.iter().any(|field| field.name.same(name)
+            && has_element(element, field.value.as_slice()))
     }
 
     /// The type of a body: the value of the first Content-Type field up to a `;`, without blanks at its
