@@ -1,0 +1,7 @@
+mod Covers
+mod Differs
+mod Exact
+mod GenerationLemmas
+mod GroupLemmas
+mod Searches
+mod SetLemmas
