@@ -100,9 +100,10 @@ module _ (q : Key → Bool) (p : ConsumerRow → Bool) (covers : (c : ConsumerRo
 none_of_other : (i id : ℕ) → (id == i) ≡ false → (acls : List AclRow) → list_any (λ r. r.consumer == i) (filter (λ r. r.consumer == id) acls) ≡ false
 none_of_other i id other [] = refl
 none_of_other i id other (a ∷ acls) =
-    (elim (a.consumer == id) as (λ b. (a.consumer == id) ≡ b → list_any (λ r. r.consumer == i) (cond {A = List AclRow} b (a ∷ filter (λ r. r.consumer == id) acls) (filter (λ r. r.consumer == id) acls)) ≡ false)
-    [ true ↦ λ same. ap (λ b. b || list_any (λ r. r.consumer == i) (filter (λ r. r.consumer == id) acls)) (ap (λ c. c == i) (eqb-true a.consumer id same) ∙ other) ∙ none_of_other i id other acls
-    | false ↦ λ _. none_of_other i id other acls ]) refl
+    (elim (a.consumer == id) as (λ b. (a.consumer == id) ≡ b → list_any (λ r. r.consumer == i) (cond {A = List AclRow} b (a ∷ filter (λ r. r.consumer == id) acls) (filter (λ r. r.consumer == id) acls)) ≡ false) [
+      | true ↦ λ same. ap (λ b. b || list_any (λ r. r.consumer == i) (filter (λ r. r.consumer == id) acls)) (ap (λ c. c == i) (eqb-true a.consumer id same) ∙ other) ∙ none_of_other i id other acls
+      | false ↦ λ _. none_of_other i id other acls
+    ]) refl
 
 module _ (i : ℕ) where
   abbrev in_groups : AclRow → Bool
@@ -125,7 +126,7 @@ module _ (i : ℕ) where
       let creds = flat_map cred_keys (filter (λ r. r.consumer == id) rows.key_creds) in
       let basics = flat_map basic_keys (filter (λ r. r.consumer == id) rows.basic_creds) in
       let last = none_of_back (same_key (Acls i)) (creds ++ basics) (Acls id ∷ [])
-              (none_of_back (same_key (Acls i)) (keys_of_id kind.Consumer id rows) (keys_of_credentials id rows) none) in
+      (none_of_back (same_key (Acls i)) (keys_of_id kind.Consumer id rows) (keys_of_credentials id rows) none) in
       filter_past_filter in_groups (λ r. r.consumer == id) rows.acls (none_of_other i id (or_left (id == i) false last) rows.acls)
   kept_acls (Delete _ id) rows none = refl
   kept_acls (Insert _) rows none = refl
@@ -145,25 +146,28 @@ covers_id i c none = or_left (c.id == i) _ none
 -- the printed id of a consumer is one of its keys
 covers_printed : (t : List ℕ) (i : ℕ) → bytes_eq (printed i) t ≡ true → (c : ConsumerRow) → list_any (same_key (Named t)) (consumer_keys c) ≡ false → (c.id == i) ≡ false
 covers_printed t i is c none =
-    (elim (c.id == i) as (λ b. (c.id == i) ≡ b → b ≡ false)
-    [ true ↦ λ same. sym is ∙ ap (λ n. bytes_eq (printed n) t) (sym (eqb-true c.id i same)) ∙ or_left (bytes_eq (printed c.id) t) (list_any (same_key (Named t)) (username_keys c.username)) none
-    | false ↦ λ _. refl ]) refl
+    (elim (c.id == i) as (λ b. (c.id == i) ≡ b → b ≡ false) [
+      | true ↦ λ same. sym is ∙ ap (λ n. bytes_eq (printed n) t) (sym (eqb-true c.id i same)) ∙ or_left (bytes_eq (printed c.id) t) (list_any (same_key (Named t)) (username_keys c.username)) none
+      | false ↦ λ _. refl
+    ]) refl
 
 -- and so is its username
 covers_username : (t : List ℕ) (c : ConsumerRow) → list_any (same_key (Named t)) (consumer_keys c) ≡ false → is_text t c.username ≡ false
 covers_username t c none =
     let last = or_right (bytes_eq (printed c.id) t) (list_any (same_key (Named t)) (username_keys c.username)) none in
-    (elim c.username as (λ name. list_any (same_key (Named t)) (username_keys name) ≡ false → is_text t name ≡ false)
-    [ None ↦ λ _. refl
-    | Some name ↦ λ h. or_left (bytes_eq name t) false h ]) last
+    (elim c.username as (λ name. list_any (same_key (Named t)) (username_keys name) ≡ false → is_text t name ≡ false) [
+      | None ↦ λ _. refl
+      | Some name ↦ λ h. or_left (bytes_eq name t) false h
+    ]) last
 
 -- a text that is an id printed is that id's
 printed_is : (t : List ℕ) (read : Option ℕ) (i : ℕ) → option_and_then (λ id. if bytes_eq (printed id) t then Some id else None) read ≡ Some i → bytes_eq (printed i) t ≡ true
 printed_is t None i is = cc
 printed_is t (Some id) i is =
-    (elim (bytes_eq (printed id) t) as (λ b. bytes_eq (printed id) t ≡ b → cond {A = Option ℕ} b (Some id) None ≡ Some i → bytes_eq (printed i) t ≡ true)
-    [ true ↦ λ same h. ap (λ n. bytes_eq (printed n) t) (sym (ap (λ o. unwrap_or o 0) h)) ∙ same
-    | false ↦ λ _ h. cc ]) refl is
+    (elim (bytes_eq (printed id) t) as (λ b. bytes_eq (printed id) t ≡ b → cond {A = Option ℕ} b (Some id) None ≡ Some i → bytes_eq (printed i) t ≡ true) [
+      | true ↦ λ same h. ap (λ n. bytes_eq (printed n) t) (sym (ap (λ o. unwrap_or o 0) h)) ∙ same
+      | false ↦ λ _ h. cc
+    ]) refl is
 
 -- the consumer that a text names
 kept_named : (t : List ℕ) (before after : List ConsumerRow)
@@ -173,10 +177,11 @@ kept_named : (t : List ℕ) (before after : List ConsumerRow)
 kept_named t before after by_id by_name =
     let last : consumer_with_username t after ≡ consumer_with_username t before = find_by_filter (λ r. is_text t r.username) after before by_name in
     (elim (printed_id_of t) as (λ read. printed_id_of t ≡ read
-        → option_or (option_and_then (λ id. find (λ r. r.id == id) after) read) (consumer_with_username t after)
-            ≡ option_or (option_and_then (λ id. find (λ r. r.id == id) before) read) (consumer_with_username t before))
-    [ None ↦ λ _. last
-    | Some i ↦ λ is. ap₂ option_or (find_by_filter (λ r. r.id == i) after before (by_id i is)) last ]) refl
+    → option_or (option_and_then (λ id. find (λ r. r.id == id) after) read) (consumer_with_username t after)
+    ≡ option_or (option_and_then (λ id. find (λ r. r.id == id) before) read) (consumer_with_username t before)) [
+      | None ↦ λ _. last
+      | Some i ↦ λ is. ap₂ option_or (find_by_filter (λ r. r.id == i) after before (by_id i is)) last
+    ]) refl
 
 -- a key that is no candidate keeps its value
 pub kept : (k : Key) (command : Command) (rows : RowLists) → list_any (same_key k) (candidates command rows) ≡ false → value_of (changed command rows) k ≡ value_of rows k

@@ -26,9 +26,10 @@ module _ (now : RowLists) where
   -- nothing was watched
   pub differ_none : Differ now [] []
   differ_none = record {
-      sound = All-nil (Sound []);
-      whole = All-nil (Whole []);
-      distinct = λ i j d before within. absurd (omega (arith, within)) }
+    sound = All-nil (Sound []);
+    whole = All-nil (Whole []);
+    distinct = λ i j d before within. absurd (omega (arith, within));
+  }
 
   -- one more was watched, and noted
   pub differ_more : (watched : List Watched) (w : Watched) (keys next : List Key) → Differ now watched keys → Noted now w keys next → Differ now (watched ++ w ∷ []) next
@@ -37,7 +38,8 @@ module _ (now : RowLists) where
         sound = subst (λ ks. All (Sound (watched ++ w ∷ [])) ks) (sym kept.0) (further watched w keys differ.sound);
         whole = subst (λ ks. All (Whole ks) (watched ++ w ∷ [])) (sym kept.0)
             (All-push (Whole keys) watched w differ.whole (λ differs. ⊎_elim (λ same. absurd (differs same)) (λ there. there) kept.1));
-        distinct = subst (AllPairs (λ a b. a ≢ b)) (sym kept.0) differ.distinct }
+        distinct = subst (AllPairs (λ a b. a ≢ b)) (sym kept.0) differ.distinct;
+      }
   differ_more watched w keys next differ (inr added) =
       record {
         sound = subst (λ ks. All (Sound (watched ++ w ∷ [])) ks) (sym added.0)
@@ -47,7 +49,8 @@ module _ (now : RowLists) where
             (All-weaker (Whole keys) (Whole (keys ++ w.key ∷ [])) (λ v there differs. Contains-append_left keys (w.key ∷ []) v.key (there differs)) watched differ.whole)
             (λ _. Contains-push keys w.key));
         distinct = subst (AllPairs (λ a b. a ≢ b)) (sym added.0)
-            (all_pairs_push (λ a b. a ≢ b) keys w.key differ.distinct (λ k d within same. added.2 (subst (Contains keys) same (Contains-get_or keys k d within)))) }
+            (all_pairs_push (λ a b. a ≢ b) keys w.key differ.distinct (λ k d within same. added.2 (subst (Contains keys) same (Contains-get_or keys k d within))));
+      }
 
 -- what holds of all holds of a front part, and of the last
 pub all_front : {X : Type 0} (P : X → Type 0) (xs : List X) (y : X) → All P (xs ++ y ∷ []) → All P xs

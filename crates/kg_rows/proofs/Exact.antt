@@ -40,9 +40,10 @@ module _ (before : RowLists) where
   is_watched : (k : Key) (ks : List Key) → list_any (same_key k) ks ≡ true → Contains (map (watched_at before) ks) (watched_at before k)
   is_watched k [] among = absurd (true≢false (sym among))
   is_watched k (j ∷ ks) among =
-      (elim (same_key k j) as (λ b. same_key k j ≡ b → (b || list_any (same_key k) ks) ≡ true → Contains (watched_at before j ∷ map (watched_at before) ks) (watched_at before k))
-      [ true ↦ λ same _. subst (λ i. Contains (watched_at before j ∷ map (watched_at before) ks) (watched_at before i)) (same_key_is k j same) (Contains-get_or (watched_at before j ∷ map (watched_at before) ks) 0 (watched_at before j) (omega arith))
-      | false ↦ λ _ rest. Contains-append_right (watched_at before j ∷ []) (map (watched_at before) ks) (watched_at before k) (is_watched k ks rest) ]) refl among
+      (elim (same_key k j) as (λ b. same_key k j ≡ b → (b || list_any (same_key k) ks) ≡ true → Contains (watched_at before j ∷ map (watched_at before) ks) (watched_at before k)) [
+        | true ↦ λ same _. subst (λ i. Contains (watched_at before j ∷ map (watched_at before) ks) (watched_at before i)) (same_key_is k j same) (Contains-get_or (watched_at before j ∷ map (watched_at before) ks) 0 (watched_at before j) (omega arith))
+        | false ↦ λ _ rest. Contains-append_right (watched_at before j ∷ []) (map (watched_at before) ks) (watched_at before k) (is_watched k ks rest)
+      ]) refl among
 
   pub names_changed : (command : Command) (keys : List Key)
       → Differ (changed command before) (map (watched_at before) (candidates command before)) keys
@@ -50,13 +51,16 @@ module _ (before : RowLists) where
   names_changed command keys differ =
       let all = candidates command before in
       record {
-        each = λ k.
-            ( (λ there same.
-                let found = All-contains (Sound (changed command before) (map (watched_at before) all)) keys k differ.sound there in
-                let was : found.0.before ≡ value_of before k = All-contains Before (map (watched_at before) all) found.0 (all_before all) found.1 ∙ ap (value_of before) found.2 in
-                found.3 (sym same ∙ sym was))
-            , λ differs.
-                (elim (list_any (same_key k) all) as (λ b. list_any (same_key k) all ≡ b → Contains keys k)
-                [ true ↦ λ among. All-contains (Whole (changed command before) keys) (map (watched_at before) all) (watched_at before k) differ.whole (is_watched k all among) (λ same. differs (sym same))
-                | false ↦ λ none. absurd (differs (sym (kept k command before none))) ]) refl );
-        distinct = differ.distinct }
+        each = λ k. (
+          (λ there same.
+              let found = All-contains (Sound (changed command before) (map (watched_at before) all)) keys k differ.sound there in
+              let was : found.0.before ≡ value_of before k = All-contains Before (map (watched_at before) all) found.0 (all_before all) found.1 ∙ ap (value_of before) found.2 in
+              found.3 (sym same ∙ sym was)),
+          λ differs.
+              (elim (list_any (same_key k) all) as (λ b. list_any (same_key k) all ≡ b → Contains keys k) [
+                | true ↦ λ among. All-contains (Whole (changed command before) keys) (map (watched_at before) all) (watched_at before k) differ.whole (is_watched k all among) (λ same. differs (sym same))
+                | false ↦ λ none. absurd (differs (sym (kept k command before none)))
+              ]) refl,
+        );
+        distinct = differ.distinct;
+      }

@@ -36,16 +36,18 @@ module _ {X : Type 0} where
   pub none_gone : (gone : X → Bool) (xs : List X) → list_any gone xs ≡ false → xs ≡ filter (λ x. not (gone x)) xs
   none_gone gone [] none = refl
   none_gone gone (x ∷ xs) none =
-      (elim (gone x) as (λ g. (g || list_any gone xs) ≡ false → x ∷ xs ≡ cond {A = List X} (not g) (x ∷ filter (λ y. not (gone y)) xs) (filter (λ y. not (gone y)) xs))
-      [ true ↦ λ wrong. absurd (true≢false wrong)
-      | false ↦ λ rest. ap (λ ys. x ∷ ys) (none_gone gone xs rest) ]) none
+      (elim (gone x) as (λ g. (g || list_any gone xs) ≡ false → x ∷ xs ≡ cond {A = List X} (not g) (x ∷ filter (λ y. not (gone y)) xs) (filter (λ y. not (gone y)) xs)) [
+        | true ↦ λ wrong. absurd (true≢false wrong)
+        | false ↦ λ rest. ap (λ ys. x ∷ ys) (none_gone gone xs rest)
+      ]) none
 
   none_left : (gone : X → Bool) (xs : List X) → list_any gone (filter (λ x. not (gone x)) xs) ≡ false
   none_left gone [] = refl
   none_left gone (x ∷ xs) =
-      (elim (gone x) as (λ g. gone x ≡ g → list_any gone (cond {A = List X} (not g) (x ∷ filter (λ y. not (gone y)) xs) (filter (λ y. not (gone y)) xs)) ≡ false)
-      [ true ↦ λ _. none_left gone xs
-      | false ↦ λ is. ap (λ b. b || list_any gone (filter (λ y. not (gone y)) xs)) is ∙ none_left gone xs ]) refl
+      (elim (gone x) as (λ g. gone x ≡ g → list_any gone (cond {A = List X} (not g) (x ∷ filter (λ y. not (gone y)) xs) (filter (λ y. not (gone y)) xs)) ≡ false) [
+        | true ↦ λ _. none_left gone xs
+        | false ↦ λ is. ap (λ b. b || list_any gone (filter (λ y. not (gone y)) xs)) is ∙ none_left gone xs
+      ]) refl
 
   one_gone : (gone : X → Bool) (xs : List X) → list_any gone xs ≡ true → xs ≢ filter (λ x. not (gone x)) xs
   one_gone gone xs some same = true≢false (sym some ∙ ap (list_any gone) same ∙ none_left gone xs)
@@ -61,23 +63,26 @@ module _ {X : Type 0} where
     pub not_there : (new : X) (xs : List X) → find which xs ≡ None → xs ≡ replaced which new xs
     not_there new [] none = refl
     not_there new (x ∷ xs) none =
-        (elim (which x) as (λ w. cond {A = Option X} w (Some x) (find which xs) ≡ None → x ∷ xs ≡ cond {A = List X} w (new ∷ xs) (x ∷ replaced which new xs))
-        [ true ↦ λ wrong. absurd (true≢false (ap is_some wrong))
-        | false ↦ λ rest. ap (λ ys. x ∷ ys) (not_there new xs rest) ]) none
+        (elim (which x) as (λ w. cond {A = Option X} w (Some x) (find which xs) ≡ None → x ∷ xs ≡ cond {A = List X} w (new ∷ xs) (x ∷ replaced which new xs)) [
+          | true ↦ λ wrong. absurd (true≢false (ap is_some wrong))
+          | false ↦ λ rest. ap (λ ys. x ∷ ys) (not_there new xs rest)
+        ]) none
 
     replaced_same : (old : X) (xs : List X) → find which xs ≡ Some old → xs ≡ replaced which old xs
     replaced_same old [] found = refl
     replaced_same old (x ∷ xs) found =
-        (elim (which x) as (λ w. cond {A = Option X} w (Some x) (find which xs) ≡ Some old → x ∷ xs ≡ cond {A = List X} w (old ∷ xs) (x ∷ replaced which old xs))
-        [ true ↦ λ is. ap (λ y. y ∷ xs) (same_Some x old is)
-        | false ↦ λ rest. ap (λ ys. x ∷ ys) (replaced_same old xs rest) ]) found
+        (elim (which x) as (λ w. cond {A = Option X} w (Some x) (find which xs) ≡ Some old → x ∷ xs ≡ cond {A = List X} w (old ∷ xs) (x ∷ replaced which old xs)) [
+          | true ↦ λ is. ap (λ y. y ∷ xs) (same_Some x old is)
+          | false ↦ λ rest. ap (λ ys. x ∷ ys) (replaced_same old xs rest)
+        ]) found
 
     replaced_differs : (old new : X) (xs : List X) → find which xs ≡ Some old → xs ≡ replaced which new xs → old ≡ new
     replaced_differs old new [] found same = absurd (true≢false (sym (ap is_some found)))
     replaced_differs old new (x ∷ xs) found same =
-        (elim (which x) as (λ w. cond {A = Option X} w (Some x) (find which xs) ≡ Some old → x ∷ xs ≡ cond {A = List X} w (new ∷ xs) (x ∷ replaced which new xs) → old ≡ new)
-        [ true ↦ λ is equal. sym (same_Some x old is) ∙ ap (head_or x) equal
-        | false ↦ λ rest equal. replaced_differs old new xs rest (ap rest_of equal) ]) found same
+        (elim (which x) as (λ w. cond {A = Option X} w (Some x) (find which xs) ≡ Some old → x ∷ xs ≡ cond {A = List X} w (new ∷ xs) (x ∷ replaced which new xs) → old ≡ new) [
+          | true ↦ λ is equal. sym (same_Some x old is) ∙ ap (head_or x) equal
+          | false ↦ λ rest equal. replaced_differs old new xs rest (ap rest_of equal)
+        ]) found same
 
     -- the list changes exactly where the member differs from the new one
     pub replaced_changes : (old new : X) (xs : List X) (same : Bool) → find which xs ≡ Some old → IsTrue same ↔ (old ≡ new) → IsTrue (not same) ↔ (xs ≢ replaced which new xs)

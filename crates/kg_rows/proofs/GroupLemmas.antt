@@ -40,7 +40,7 @@ all_rows : (p : List ℕ → Bool) (consumer : ℕ) (acls : List AclRow)
 all_rows p consumer [] = refl
 all_rows p consumer (a ∷ acls) =
     (elim (a.consumer == consumer) as (λ b. ((not b || p a.group) && list_all (λ row. not (row.consumer == consumer) || p row.group) acls)
-        ≡ list_all p (map (λ row. row.group) (cond {A = List AclRow} b (a ∷ filter (λ row. row.consumer == consumer) acls) (filter (λ row. row.consumer == consumer) acls))))
+    ≡ list_all p (map (λ row. row.group) (cond {A = List AclRow} b (a ∷ filter (λ row. row.consumer == consumer) acls) (filter (λ row. row.consumer == consumer) acls))))
     [ true ↦ ap (λ b. p a.group && b) (all_rows p consumer acls) | false ↦ all_rows p consumer acls ])
 
 any_rows : (p : List ℕ → Bool) (consumer : ℕ) (acls : List AclRow)
@@ -48,7 +48,7 @@ any_rows : (p : List ℕ → Bool) (consumer : ℕ) (acls : List AclRow)
 any_rows p consumer [] = refl
 any_rows p consumer (a ∷ acls) =
     (elim (a.consumer == consumer) as (λ b. ((b && p a.group) || list_any (λ row. row.consumer == consumer && p row.group) acls)
-        ≡ list_any p (map (λ row. row.group) (cond {A = List AclRow} b (a ∷ filter (λ row. row.consumer == consumer) acls) (filter (λ row. row.consumer == consumer) acls))))
+    ≡ list_any p (map (λ row. row.group) (cond {A = List AclRow} b (a ∷ filter (λ row. row.consumer == consumer) acls) (filter (λ row. row.consumer == consumer) acls))))
     [ true ↦ ap (λ b. p a.group || b) (any_rows p consumer acls) | false ↦ any_rows p consumer acls ])
 
 module _ (consumer : ℕ) (acls : List AclRow) (groups : List (List ℕ)) where
@@ -78,8 +78,8 @@ module _ (consumer : ℕ) (acls : List AclRow) (groups : List (List ℕ)) where
       same_sorted nat_list_cmp_total exact_bytes (groups_of consumer acls) groups
       (sorted_fold nat_list_cmp_total exact_bytes (groups_in consumer acls) [] (tt {0})) sorted
       (λ t. in_set t ∙ both (has t (groups_in consumer acls)) (has t groups)
-          (included nat_list_cmp_total exact_bytes (groups_in consumer acls) groups (sym among_is ∙ one) t)
-          (included nat_list_cmp_total exact_bytes groups (groups_in consumer acls) (sym each_is ∙ other) t))
+      (included nat_list_cmp_total exact_bytes (groups_in consumer acls) groups (sym among_is ∙ one) t)
+      (included nat_list_cmp_total exact_bytes groups (groups_in consumer acls) (sym each_is ∙ other) t))
 
   pub groups_among : groups_of consumer acls ≡ groups → among ≡ true
   groups_among same =

@@ -3,5 +3,6 @@ mod Differs
 mod Exact
 mod GenerationLemmas
 mod GroupLemmas
+mod SameLemmas
 mod Searches
 mod SetLemmas

@@ -23,28 +23,31 @@ module _ {X : Type 0} (p : X → Bool) where
   filter_past_filter gone [] none = refl
   filter_past_filter gone (x ∷ xs) none =
       (elim (gone x) as (λ g. list_any p (cond {A = List X} g (x ∷ filter gone xs) (filter gone xs)) ≡ false
-          → filter p (cond {A = List X} (not g) (x ∷ filter (λ y. not (gone y)) xs) (filter (λ y. not (gone y)) xs)) ≡ cond {A = List X} (p x) (x ∷ filter p xs) (filter p xs))
-      [ true ↦ λ h. filter_past_filter gone xs (or_right (p x) (list_any p (filter gone xs)) h)
+      → filter p (cond {A = List X} (not g) (x ∷ filter (λ y. not (gone y)) xs) (filter (λ y. not (gone y)) xs)) ≡ cond {A = List X} (p x) (x ∷ filter p xs) (filter p xs)) [
+        | true ↦ λ h. filter_past_filter gone xs (or_right (p x) (list_any p (filter gone xs)) h)
             ∙ sym (ap (λ b. cond {A = List X} b (x ∷ filter p xs) (filter p xs)) (or_left (p x) (list_any p (filter gone xs)) h))
-      | false ↦ λ h. ap (λ rest. cond {A = List X} (p x) (x ∷ rest) rest) (filter_past_filter gone xs h) ]) none
+        | false ↦ λ h. ap (λ rest. cond {A = List X} (p x) (x ∷ rest) rest) (filter_past_filter gone xs h)
+      ]) none
 
   -- a member that fails is replaced by one that fails
   pub filter_past_replaced : (which : X → Bool) (new : X) → p new ≡ false → (xs : List X) → list_any p (filter which xs) ≡ false → filter p (replaced which new xs) ≡ filter p xs
   filter_past_replaced which new fails [] none = refl
   filter_past_replaced which new fails (x ∷ xs) none =
       (elim (which x) as (λ w. list_any p (cond {A = List X} w (x ∷ filter which xs) (filter which xs)) ≡ false
-          → filter p (cond {A = List X} w (new ∷ xs) (x ∷ replaced which new xs)) ≡ cond {A = List X} (p x) (x ∷ filter p xs) (filter p xs))
-      [ true ↦ λ h. ap (λ b. cond {A = List X} b (new ∷ filter p xs) (filter p xs)) fails
+      → filter p (cond {A = List X} w (new ∷ xs) (x ∷ replaced which new xs)) ≡ cond {A = List X} (p x) (x ∷ filter p xs) (filter p xs)) [
+        | true ↦ λ h. ap (λ b. cond {A = List X} b (new ∷ filter p xs) (filter p xs)) fails
             ∙ sym (ap (λ b. cond {A = List X} b (x ∷ filter p xs) (filter p xs)) (or_left (p x) (list_any p (filter which xs)) h))
-      | false ↦ λ h. ap (λ rest. cond {A = List X} (p x) (x ∷ rest) rest) (filter_past_replaced which new fails xs h) ]) none
+        | false ↦ λ h. ap (λ rest. cond {A = List X} (p x) (x ∷ rest) rest) (filter_past_replaced which new fails xs h)
+      ]) none
 
   -- the first that passes is the first of those that pass
   pub find_filter : (xs : List X) → find p xs ≡ find p (filter p xs)
   find_filter [] = refl
   find_filter (x ∷ xs) =
-      (elim (p x) as (λ b. p x ≡ b → cond {A = Option X} b (Some x) (find p xs) ≡ find p (cond {A = List X} b (x ∷ filter p xs) (filter p xs)))
-      [ true ↦ λ is. sym (ap (λ b. cond {A = Option X} b (Some x) (find p (filter p xs))) is)
-      | false ↦ λ _. find_filter xs ]) refl
+      (elim (p x) as (λ b. p x ≡ b → cond {A = Option X} b (Some x) (find p xs) ≡ find p (cond {A = List X} b (x ∷ filter p xs) (filter p xs))) [
+        | true ↦ λ is. sym (ap (λ b. cond {A = Option X} b (Some x) (find p (filter p xs))) is)
+        | false ↦ λ _. find_filter xs
+      ]) refl
 
   -- where the same pass, the same is first
   pub find_by_filter : (xs ys : List X) → filter p xs ≡ filter p ys → find p xs ≡ find p ys

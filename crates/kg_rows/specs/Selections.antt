@@ -49,14 +49,16 @@ selected kind (Word text) rows = row_with_word kind text rows
 -- credentials, groups and plugins of a consumer; of the other kinds all rows
 abbrev pub rows_under : Kind → ℕ → RowLists → RowLists
 rows_under kind.Service id rows = record rows {
-    routes = filter (λ r. r.service == id) rows.routes;
-    plugins = filter (names_row kind.Service id) rows.plugins }
+  routes = filter (λ r. r.service == id) rows.routes;
+  plugins = filter (names_row kind.Service id) rows.plugins;
+}
 rows_under kind.Route id rows = record rows { plugins = filter (names_row kind.Route id) rows.plugins }
 rows_under kind.Consumer id rows = record rows {
-    key_creds = filter (λ r. r.consumer == id) rows.key_creds;
-    basic_creds = filter (λ r. r.consumer == id) rows.basic_creds;
-    acls = filter (λ r. r.consumer == id) rows.acls;
-    plugins = filter (names_row kind.Consumer id) rows.plugins }
+  key_creds = filter (λ r. r.consumer == id) rows.key_creds;
+  basic_creds = filter (λ r. r.consumer == id) rows.basic_creds;
+  acls = filter (λ r. r.consumer == id) rows.acls;
+  plugins = filter (names_row kind.Consumer id) rows.plugins;
+}
 rows_under _ id rows = rows
 
 -- the id of a parent, if it is there

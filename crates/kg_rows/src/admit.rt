@@ -8,7 +8,9 @@ ghost use Rattle.kg_entities.specs.ValidRows.{same_membership, same_place};
 ghost use Rattle.kg_rows.specs.Allowed.{is_taken, is_free, has_if_set, has_scope, has_named_rows, is_unique, is_unused, is_consistent, has_room, is_allowed};
 
 use crate::command::Command;
-use kg_entities::{AclRow, BasicCred, Consumer, Entity, Id, KeyCred, Kind, PluginRow, Route, Rows, Scope, Service};
+use kg_entities::{
+    AclRow, BasicCred, Consumer, Entity, Id, KeyCred, Kind, PluginRow, Route, Rows, Scope, Service,
+};
 use kg_text::Text;
 
 /// Whether the command is allowed at these rows: an inserted row's id is new and its kind has fewer
@@ -25,7 +27,9 @@ fn is_consistent(rows: &Rows, command: &Command) -> bool
 {
     match command {
         Command::Insert(new) => {
-            !rows.contains(new.kind(), new.id()) && has_named_rows(new, rows) && is_unique(new, rows)
+            !rows.contains(new.kind(), new.id())
+                && has_named_rows(new, rows)
+                && is_unique(new, rows)
         }
         Command::Update(new) => {
             rows.contains(new.kind(), new.id()) && has_named_rows(new, rows) && is_unique(new, rows)
@@ -200,16 +204,13 @@ fn is_key_taken(cred: &KeyCred, creds: &[KeyCred]) -> bool
 fn is_login_taken(cred: &BasicCred, creds: &[BasicCred]) -> bool
     ensures { result ≡ is_taken (λ other. other.id) cred.now.id (λ other. bytes_eq other.username cred.now.username) creds.now }
 {
-    creds
-        .iter()
-        .any(|other| other.id != cred.id && other.username == cred.username)
+    creds.iter().any(|other| other.id != cred.id && other.username == cred.username)
 }
 
 fn is_membership_taken(membership: &AclRow, acls: &[AclRow]) -> bool
     ensures { result ≡ is_taken (λ other. other.id) membership.now.id (λ other. same_membership other membership.now) acls.now }
 {
-    acls.iter()
-        .any(|other| other.id != membership.id && is_same_membership(other, membership))
+    acls.iter().any(|other| other.id != membership.id && is_same_membership(other, membership))
 }
 
 fn is_same_membership(a: &AclRow, b: &AclRow) -> bool
@@ -221,9 +222,7 @@ fn is_same_membership(a: &AclRow, b: &AclRow) -> bool
 fn is_place_taken(plugin: &PluginRow, plugins: &[PluginRow]) -> bool
     ensures { result ≡ is_taken (λ other. other.id) plugin.now.id (λ other. same_place other plugin.now) plugins.now }
 {
-    plugins
-        .iter()
-        .any(|other| other.id != plugin.id && is_same_place(other, plugin))
+    plugins.iter().any(|other| other.id != plugin.id && is_same_place(other, plugin))
 }
 
 fn is_same_place(a: &PluginRow, b: &PluginRow) -> bool

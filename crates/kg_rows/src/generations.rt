@@ -10,6 +10,7 @@ ghost use Rattle.kg_rows.specs.Values.{generation_of};
 ghost use Rattle.std.specs.List.{list_any};
 
 use crate::command::Command;
+use crate::same::{is_same_plugin, is_same_route, is_same_service};
 use kg_entities::{Entity, GenKey, Id, Kind, PluginRow, Route, Rows, Service};
 use kg_text::{List, NoMemory};
 use std::alloc::Global;
@@ -122,12 +123,6 @@ fn replaces_service(rows: &Rows, new: &Service) -> bool
     }
 }
 
-fn is_same_service(a: &Service, b: &Service) -> bool
-    ensures { IsTrue result ↔ (a.now ≡ b.now) }
-{
-    a == b
-}
-
 fn replaces_route(rows: &Rows, new: &Route) -> bool
     ensures { IsTrue result ↔ (rows.now.routes ≢ replaced (λ row. row.id == new.now.id) new.now rows.now.routes) }
 {
@@ -137,12 +132,6 @@ fn replaces_route(rows: &Rows, new: &Route) -> bool
     }
 }
 
-fn is_same_route(a: &Route, b: &Route) -> bool
-    ensures { IsTrue result ↔ (a.now ≡ b.now) }
-{
-    a == b
-}
-
 fn replaces_plugin(rows: &Rows, new: &PluginRow) -> bool
     ensures { IsTrue result ↔ (rows.now.plugins ≢ replaced (λ row. row.id == new.now.id) new.now rows.now.plugins) }
 {
@@ -150,10 +139,4 @@ fn replaces_plugin(rows: &Rows, new: &PluginRow) -> bool
         Some(old) => !is_same_plugin(old, new),
         None => false,
     }
-}
-
-fn is_same_plugin(a: &PluginRow, b: &PluginRow) -> bool
-    ensures { IsTrue result ↔ (a.now ≡ b.now) }
-{
-    a == b
 }

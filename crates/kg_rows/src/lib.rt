@@ -9,6 +9,7 @@ mod candidates;
 mod change;
 mod command;
 mod generations;
+mod same;
 mod select;
 mod touched;
 mod value;

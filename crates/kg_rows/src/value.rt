@@ -148,8 +148,7 @@ fn has_groups(acls: &[AclRow], consumer: Id, groups: &List<Text>) -> bool
 fn are_among(acls: &[AclRow], consumer: Id, groups: &List<Text>) -> bool
     ensures { result ≡ list_all (λ row. not (row.consumer == consumer) || list_any (bytes_eq row.group) groups.now) acls.now }
 {
-    acls.iter()
-        .all(|row| row.consumer != consumer || is_group(groups, &row.group))
+    acls.iter().all(|row| row.consumer != consumer || is_group(groups, &row.group))
 }
 
 fn is_group(groups: &List<Text>, group: &Text) -> bool

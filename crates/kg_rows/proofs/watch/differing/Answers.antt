@@ -18,4 +18,5 @@ loop-w-preserved c =
       differ = λ orderly.
           differ_more c.args.rows.now c.loop-w.yielded c.in-Some.w c.loop-w.keys.items c.note.new.keys.items
           (c.loop-w.invariant.differ (all_front (λ w. IsOrderly w.before) c.loop-w.yielded c.in-Some.w orderly))
-          (c.note.ensures.noted (all_last (λ w. IsOrderly w.before) c.loop-w.yielded c.in-Some.w orderly)) }
+          (c.note.ensures.noted (all_last (λ w. IsOrderly w.before) c.loop-w.yielded c.in-Some.w orderly));
+    }
