@@ -1,0 +1,11 @@
+//! Bodies of JSON as rows of the gateway's configuration: which rules a body breaks, what it sets,
+//! and how a row is shown.
+#![tactic(auto)]
+
+mod fault;
+mod form;
+mod rule;
+
+pub use crate::fault::Broken;
+pub use crate::form::FormError;
+pub use crate::rule::Rule;
