@@ -2,7 +2,7 @@
 -- Admin API and the pages of the plugins; the bounds are this project's own). `Judged` fields are read,
 -- `Fixed` ones take one value alone, `Dropped` ones are ignored, and those `Inside` are objects with a
 -- table of their own.
-use Rattle.std.specs.Prelude.{ℕ, ◌+◌, true, false, List, [], ◌∷◌, Option, Some, None, unwrap_or, codes}
+use Rattle.std.specs.Prelude.{ℕ, ◌+◌, pos, neg_ℤ, true, false, List, [], ◌∷◌, Option, Some, None, unwrap_or, codes}
 use Rattle.std.specs.Map.{lookup}
 use Rattle.std.specs.Str.{bytes_eq}
 use Rattle.kg_entities.specs.declared.entity.Kind.{Kind}
@@ -60,7 +60,7 @@ route_fields =
     ∷ (codes "hosts", Judged (Texts word.RouteHost))
     ∷ (codes "paths", Judged (Texts word.RoutePath))
     ∷ (codes "headers", Judged Headers)
-    ∷ (codes "regex_priority", Judged (Integer 1000000))
+    ∷ (codes "regex_priority", Judged (Integer (neg_ℤ (pos 1000000)) (pos 1000000)))
     ∷ (codes "strip_path", Judged Flag)
     ∷ (codes "preserve_host", Judged Flag)
     ∷ (codes "path_handling", Fixed (Phrase phrase.V0))

@@ -1,11 +1,11 @@
 -- Which rule the value of a field breaks, by the shape that the field has (JSON: RFC 8259). null and
 -- the empty list count as not set, and what isn't set breaks no rule of a shape.
-use Rattle.std.specs.Prelude.{ℕ, ◌==◌, ◌+◌, ℤ, pos, negsuc, Bool, true, false, not, ◌&&◌, ◌||◌, nat_lt, nat_le, List, [], ◌∷◌, ◌++◌, length, map, fold, codes, if◌then◌else◌, Option, Some, None, is_some, option_map, option_and_then, Result, Ok, Err}
+use Rattle.std.specs.Prelude.{ℕ, ◌==◌, ◌+◌, ℤ, int_le, Bool, true, false, not, ◌&&◌, ◌||◌, nat_lt, nat_le, List, [], ◌∷◌, ◌++◌, length, map, fold, codes, if◌then◌else◌, Option, Some, None, is_some, option_map, option_and_then, Result, Ok, Err}
 use Rattle.std.specs.Option.{option_map_or}
 use Rattle.std.specs.List.{list_all, list_any}
 use Rattle.std.specs.Str.{bytes_eq, str_to_ascii_lowercase}
 use Rattle.serde_json.specs.Data.{Data, null, boolean, number, string, array, object, Num, unsigned, negative, float, Items, no_items, item, Members, no_members, member}
-use Rattle.serde_json.specs.Find.{as_null, as_bool, as_number, as_str, as_array, as_object, get}
+use Rattle.serde_json.specs.Find.{as_null, as_bool, as_number, as_str, as_array, as_object, as_u64, as_i64, is_float, get}
 use Rattle.kg_text.specs.Names.{is_token}
 use Rattle.kg_entities.specs.Ids.{id_of}
 use Rattle.kg_entities.specs.Words.{are_distinct}
@@ -65,21 +65,17 @@ protocols_rule texts =
 
 -- ---- numbers
 
--- a whole number from low to high
+-- a whole number from low to high; a float is of another type, and a negative number is out of range
 abbrev pub whole_rule : ℕ → ℕ → Num → Option Rule
-whole_rule low high (unsigned n) = if nat_le low n && nat_le n high then None else Some OutOfRange
-whole_rule low high (negative z) = Some OutOfRange
-whole_rule low high (float x) = Some WrongType
+whole_rule low high n =
+    if is_float n then Some WrongType
+    else option_map_or (λ m. if nat_le low m && nat_le m high then None else Some OutOfRange) (as_u64 n) (Some OutOfRange)
 
--- an integer that is at most so far from 0
-abbrev pub is_near : ℕ → ℤ → Bool
-is_near most (pos n) = nat_le n most
-is_near most (negsuc n) = nat_lt n most
-
-abbrev pub integer_rule : ℕ → Num → Option Rule
-integer_rule most (unsigned n) = if nat_le n most then None else Some OutOfRange
-integer_rule most (negative z) = if is_near most z then None else Some OutOfRange
-integer_rule most (float x) = Some WrongType
+-- an integer from low to high; one that 64 bits don't hold is out of range
+abbrev pub integer_rule : ℤ → ℤ → Num → Option Rule
+integer_rule low high n =
+    if is_float n then Some WrongType
+    else option_map_or (λ z. if int_le low z && int_le z high then None else Some OutOfRange) (as_i64 n) (Some OutOfRange)
 
 -- ---- references to rows of other kinds
 
@@ -164,7 +160,7 @@ shape_rule (shape.Texts kind) d = typed (list_rule kind) (texts_of d)
 shape_rule (shape.OneOf choice) d = typed (choice_rule choice) (as_str d)
 shape_rule shape.Protocols d = typed protocols_rule (texts_of d)
 shape_rule (shape.Whole low high) d = typed (whole_rule low high) (as_number d)
-shape_rule (shape.Integer most) d = typed (integer_rule most) (as_number d)
+shape_rule (shape.Integer low high) d = typed (integer_rule low high) (as_number d)
 shape_rule shape.Flag d = typed (λ b. None) (as_bool d)
 shape_rule (shape.Reference how) d = error_of (reference_of how d)
 shape_rule shape.Headers d = typed headers_rule (as_object d)

@@ -5,4 +5,5 @@ pub mod Judging
 pub mod Rules
 pub mod Settings
 pub mod TextRules
+pub mod UrlParts
 pub mod Urls

@@ -42,9 +42,9 @@ texts_at kind name body = option_map_or (map (kept kind)) (option_and_then texts
 abbrev pub whole_at : ℕ → ℕ → List ℕ → Data → Option ℕ
 whole_at low high name body = option_and_then as_u64 (option_and_then as_number (value_at (shape.Whole low high) name body))
 
--- an integer that is at most so far from 0
-abbrev pub integer_at : ℕ → List ℕ → Data → Option ℤ
-integer_at most name body = option_and_then as_i64 (option_and_then as_number (value_at (shape.Integer most) name body))
+-- an integer from low to high
+abbrev pub integer_at : ℤ → ℤ → List ℕ → Data → Option ℤ
+integer_at low high name body = option_and_then as_i64 (option_and_then as_number (value_at (shape.Integer low high) name body))
 
 abbrev pub flag_at : List ℕ → Data → Option Bool
 flag_at name body = option_and_then as_bool (get name body)

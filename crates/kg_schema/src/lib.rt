@@ -2,9 +2,17 @@
 //! and how a row is shown.
 #![tactic(auto)]
 
+mod constant;
 mod fault;
 mod form;
+mod reference;
 mod rule;
+mod shape;
+mod table;
+mod text_rule;
+mod parts;
+mod url;
+mod word;
 
 pub use crate::fault::Broken;
 pub use crate::form::FormError;

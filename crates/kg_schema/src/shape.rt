@@ -14,8 +14,8 @@ pub enum Shape {
     Protocols,
     /// A whole number.
     Whole { low: u64, high: u64 },
-    /// An integer from `-most` to `most`.
-    Integer { most: u64 },
+    /// An integer that may be negative.
+    Integer { low: i64, high: i64 },
     Flag,
     Reference(Mention),
     /// An object of lists of texts, whose names are those of headers.

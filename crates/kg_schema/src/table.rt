@@ -122,7 +122,10 @@ fn route_field(name: &str) -> Field
         "hosts" => Field::Judged(Shape::Texts(Word::RouteHost)),
         "paths" => Field::Judged(Shape::Texts(Word::RoutePath)),
         "headers" => Field::Judged(Shape::Headers),
-        "regex_priority" => Field::Judged(Shape::Integer { most: 1_000_000 }),
+        "regex_priority" => Field::Judged(Shape::Integer {
+            low: -1_000_000,
+            high: 1_000_000,
+        }),
         "strip_path" | "preserve_host" => Field::Judged(Shape::Flag),
         "path_handling" => Field::Fixed(Constant::Phrase(Phrase::V0)),
         "snis" | "sources" | "destinations" => Field::Fixed(Constant::Nothing),
