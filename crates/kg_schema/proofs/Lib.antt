@@ -1,0 +1,5 @@
+mod DistinctTexts
+mod ItemLemmas
+mod PatternLemmas
+mod RuleLemmas
+mod TextLemmas

@@ -130,11 +130,13 @@ member_names (member name d rest) = name ∷ member_names rest
 abbrev pub is_header : List ℕ → Bool
 is_header name = is_token name && not (bytes_eq (str_to_ascii_lowercase name) (codes "host"))
 
+-- the values of one header
+abbrev pub values_rule : Data → Option Rule
+values_rule d = if is_set d then typed (list_rule word.FreeText) (texts_of d) else None
+
 -- one header: its name, and its values
 abbrev pub header_rule : List ℕ → Data → Option Rule
-header_rule name d =
-    sooner (if is_set d then typed (list_rule word.FreeText) (texts_of d) else None)
-    (if is_header name then None else Some Syntax)
+header_rule name d = sooner (values_rule d) (if is_header name then None else Some Syntax)
 
 abbrev pub each_header_rule : Members → Option Rule
 each_header_rule no_members = None

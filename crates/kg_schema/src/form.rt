@@ -1,11 +1,25 @@
 //! Bodies that break no rule of a field.
 
-use crate::fault::Broken;
-use kg_text::{List, NoMemory};
-use std::alloc::{AllocError, AllocFailed};
-
-ghost use Rattle.std.specs.Prelude.{◌≡◌};
+ghost use Rattle.std.specs.Prelude.{◌≡◌, [], IfErr, IfOk, OnOk};
+ghost use Rattle.serde_json.specs.View.{view};
+ghost use Rattle.kg_schema.specs.BrokenRules.{field_faults};
+ghost use Rattle.kg_schema.specs.Rules.{Tells};
 ghost use Rattle.kg_schema.specs.declared.form.FormError.TheVariants.{NoMemory as OutOfMemory};
+
+use crate::fault::Broken;
+use crate::fields::field_faults;
+use kg_entities::Kind;
+use kg_text::{List, NoMemory};
+use serde_json::Value;
+use std::alloc::{AllocError, AllocFailed, Global};
+
+/// A body of a kind that breaks no rule of a field. What it sets, field by field, is said by
+/// `specs/Settings.antt`.
+#[derive(Drop)]
+pub struct Form {
+    kind: Kind,
+    body: Value,
+}
 
 /// Why a body is refused.
 #[derive(Debug, PartialEq, Drop)]
@@ -14,6 +28,41 @@ pub enum FormError {
     Violation(List<Broken>),
     /// There was no memory, or a pattern among its paths is too large to be compiled.
     NoMemory,
+}
+
+/// Judges each field of a body by itself, and keeps a body that breaks no rule.
+///
+/// What isn't an object has no fields. Of a plugin's config the fields are judged where the body
+/// names the plugin.
+#[tactic(auto, using(crate::proofs::RuleLemmas::in_order_none))]
+pub fn read_form(alloc: Global, kind: Kind, body: &Value) -> Result<Form, FormError>
+    ensures kind { IfOk result (λ form. form.kind ≡ kind) }
+    ensures body { IfOk result (λ form. view form.body ≡ view body.now) }
+    ensures valid { OnOk result (field_faults kind (view body.now) ≡ []) }
+    ensures violation { IfErr result (λ e. Tells e (field_faults kind (view body.now))) }
+{
+    let faults = field_faults(alloc, kind, body)?;
+    if !faults.is_empty() {
+        return Err(FormError::Violation(faults.into_list(alloc)?));
+    }
+    let body = body.clone()?;
+    Ok(Form { kind, body })
+}
+
+impl Form {
+    /// The kind of row that the body is for.
+    pub fn kind(&self) -> Kind
+        ensures { result ≡ self.now.kind }
+    {
+        self.kind
+    }
+
+    /// The body, as it was read.
+    pub fn body(&self) -> &Value
+        ensures { result.now ≡ self.now.body }
+    {
+        &self.body
+    }
 }
 
 impl From<NoMemory> for FormError {

@@ -4,16 +4,20 @@
 
 mod constant;
 mod fault;
+mod fields;
 mod form;
+mod judge;
+mod parts;
 mod reference;
 mod rule;
+mod settings;
 mod shape;
 mod table;
 mod text_rule;
-mod parts;
+mod texts;
 mod url;
 mod word;
 
 pub use crate::fault::Broken;
-pub use crate::form::FormError;
+pub use crate::form::{Form, FormError, read_form};
 pub use crate::rule::Rule;

@@ -1,5 +1,9 @@
 //! References to rows of other kinds.
 
+ghost use Rattle.std.specs.Prelude.{◌≡◌};
+ghost use Rattle.kg_schema.specs.Judging.{mentioned_by, word_of};
+
+use crate::word::Word;
 use kg_entities::Id;
 use kg_text::Text;
 
@@ -17,4 +21,26 @@ pub enum Mention {
 pub enum Reference {
     Id(Id),
     Name(Text),
+}
+
+impl Mention {
+    /// The member by which an object names a row.
+    pub fn member(self) -> &'static str
+        ensures { result.now ≡ mentioned_by self }
+    {
+        match self {
+            Mention::Name => "name",
+            Mention::Username => "username",
+        }
+    }
+
+    /// How such a row is named.
+    pub fn word(self) -> Word
+        ensures { result ≡ word_of self }
+    {
+        match self {
+            Mention::Name => Word::Name,
+            Mention::Username => Word::FreeText,
+        }
+    }
 }

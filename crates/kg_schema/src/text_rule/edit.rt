@@ -1,6 +1,6 @@
 //! Members of a transformer's lists: `name`, or `name:value`.
 
-ghost use Rattle.std.specs.Prelude.{◌≡◌, ◌==◌, codes};
+ghost use Rattle.std.specs.Prelude.{◌≡◌, ◌==◌, slice_index};
 ghost use Rattle.std.specs.Str.{str_eq_ignore_ascii_case};
 ghost use Rattle.kg_entities.specs.ConfigWords.{after_first, colon, edit_name, edit_value, has_edit_form, has_header_edit_form, has_header_rename_form, has_template, is_barred};
 
@@ -63,12 +63,14 @@ fn is_barred(name: &[u8]) -> bool
 fn has_template(text: &[u8]) -> bool
     ensures { result ≡ has_template text.now }
 {
-    let mut rest = text;
-    loop {
-        match rest {
-            [] => return false,
-            [b'$', b'(', ..] => return true,
-            [_, behind @ ..] => rest = behind,
-        }
+    match text {
+        [first, rest @ ..] => (*first == b'$' && is_open(rest)) || has_template(rest),
+        [] => false,
     }
+}
+
+fn is_open(behind: &[u8]) -> bool
+    ensures { result ≡ (slice_index behind.now 0 == 0x28) }
+{
+    behind.first() == Some(&b'(')
 }

@@ -101,9 +101,15 @@ fn is_wildcard_in_front(text: &[u8]) -> bool
 fn is_wildcard_behind(text: &[u8]) -> bool
     ensures { result ≡ (ends_with nat_eq text.now (codes ".*") && has_host_form (take (length text.now - 1) text.now)) }
 {
+    text.ends_with(b".*") && has_host_form(without_last(text))
+}
+
+fn without_last(text: &[u8]) -> &[u8]
+    ensures { result.now ≡ take (length text.now - 1) text.now }
+{
     match text {
-        [rest @ .., b'*'] => rest.ends_with(b".") && has_host_form(rest),
-        _ => false,
+        [front @ .., _] => front,
+        [] => text,
     }
 }
 
