@@ -32,6 +32,9 @@ position_or_end test xs =
     at_end true within = refl
     at_end false within = let bound = prefix_len-le-length (λ x. not (test x)) xs in grind (arith, nat_tests)
 
+one_more : (n : ℕ) → 1 + n ≡ suc n
+one_more n = omega arith
+
 -- nothing stands from the first such byte on exactly where there is none
 pub from_first-empty : (test : ℕ → Bool) (xs : List ℕ) → (length (from_first test xs) == 0) ≡ not (list_any test xs)
 from_first-empty test [] = refl
@@ -42,9 +45,6 @@ from_first-empty test (x ∷ xs) = at_first (test x) (from_first-empty test xs)
     at_first true later = refl
     at_first false later = rw (one_more (position_or_len test xs)) later
 
-    one_more : (n : ℕ) → 1 + n ≡ suc n
-    one_more n = omega arith
-
 -- what stands behind the first such byte
 pub behind_first : (test : ℕ → Bool) (xs : List ℕ) → drop 1 (from_first test xs) ≡ drop (position_or_len test xs + 1) xs
 behind_first test xs = drop-drop 1 (position_or_len test xs) xs
@@ -52,10 +52,7 @@ behind_first test xs = drop-drop 1 (position_or_len test xs) xs
 -- a template begins at the first byte, or behind it
 pub template_at : (xs : List ℕ) → 0 < length xs
     → has_template xs ≡ ((slice_index xs 0 == 0x24 && slice_index (drop 1 xs) 0 == 0x28) || has_template (drop 1 xs))
-template_at [] some = absurd (not_less some)
-  where
-    not_less : ¬ (0 < 0)
-    not_less h = grind (arith, h)
+template_at [] some = grind (arith, some)
 template_at (x ∷ xs) some = refl
 
 -- ---- ASCII

@@ -1,5 +1,5 @@
 -- What a body sets, field by field. A value that breaks a rule of its field sets nothing.
-use Rattle.std.specs.Prelude.{ℕ, ℤ, Bool, false, List, [], ◌∷◌, map, fold, codes, if◌then◌else◌, Option, Some, None, is_some, unwrap_or, option_map, option_and_then}
+use Rattle.std.specs.Prelude.{ℕ, ℤ, Bool, ◌&&◌, false, List, [], ◌∷◌, map, fold, codes, if◌then◌else◌, Option, Some, None, is_none, is_some, unwrap_or, option_map, option_and_then}
 use Rattle.std.specs.BTreeMap.{insert_entry}
 use Rattle.std.specs.Cmp.Lexicographic.{slice_cmp}
 use Rattle.std.specs.List.{list_any}
@@ -9,12 +9,13 @@ use Rattle.std.specs.Result.{result_ok}
 use Rattle.std.specs.Str.{bytes_eq, str_to_ascii_lowercase}
 use Rattle.serde_json.specs.Data.{Data, null, Members, no_members, member}
 use Rattle.serde_json.specs.Find.{as_bool, as_number, as_str, as_object, as_u64, as_i64, get}
+use Rattle.kg_text.specs.Names.{is_token}
 use Rattle.kg_entities.specs.Ids.{id_of}
 use Rattle.kg_entities.specs.declared.config.LimitBy.{LimitBy}
 use Rattle.kg_entities.specs.declared.config.SizeUnit.{SizeUnit}
 use Rattle.kg_entities.specs.declared.route.HeaderTest.{HeaderTest}
 use Rattle.kg_schema.specs.Choices.{limit_by_named, size_unit_named}
-use Rattle.kg_schema.specs.Judging.{is_set, judged, reference_of, texts_of}
+use Rattle.kg_schema.specs.Judging.{header_rule, is_set, judged, reference_of, texts_of}
 use Rattle.kg_schema.specs.TextRules.{kept}
 use Rattle.kg_schema.specs.Urls.{url_of}
 use Rattle.kg_schema.specs.declared.reference.Mention.{Mention}
@@ -72,16 +73,26 @@ https_at body = option_map (list_any (bytes_eq (codes "https"))) (option_and_the
 
 -- ---- headers of a route
 
--- the headers in byte order of their names in lower case; a name whose list isn't set is left out
-abbrev pub tests_in : List (List ℕ × List (List ℕ)) → Members → List (List ℕ × List (List ℕ))
-tests_in tests no_members = tests
-tests_in tests (member name d rest) =
-    tests_in (if is_set d then insert_entry (slice_cmp nat_cmp) tests (str_to_ascii_lowercase name) (unwrap_or (texts_of d) []) else tests) rest
+-- the test of one header, if its list is set and it breaks no rule
+abbrev pub test_of : List ℕ → Data → Option HeaderTest
+test_of name d =
+    if is_set d && is_token name && is_none (header_rule name d)
+    then Some (record { name = str_to_ascii_lowercase name; values = unwrap_or (texts_of d) [] })
+    else None
 
+-- the tests with one more, in byte order of the names in lower case
+abbrev pub with_test : List (List ℕ × HeaderTest) → Option HeaderTest → List (List ℕ × HeaderTest)
+with_test tests None = tests
+with_test tests (Some test) = insert_entry (slice_cmp nat_cmp) tests test.name test
+
+abbrev pub tests_in : List (List ℕ × HeaderTest) → Members → List (List ℕ × HeaderTest)
+tests_in tests no_members = tests
+tests_in tests (member name d rest) = tests_in (with_test tests (test_of name d)) rest
+
+-- the headers in byte order of their names; a name whose list isn't set is left out
 abbrev pub tests_at : Data → List HeaderTest
 tests_at body =
-    map (λ test. record { name = test.0; values = test.1 })
-    (option_map_or (tests_in []) (option_and_then as_object (value_at shape.Headers (codes "headers") body)) [])
+    map (λ entry. entry.1) (option_map_or (tests_in []) (option_and_then as_object (value_at shape.Headers (codes "headers") body)) [])
 
 -- ---- objects inside a body
 

@@ -21,3 +21,6 @@ mod word;
 pub use crate::fault::Broken;
 pub use crate::form::{Form, FormError, read_form};
 pub use crate::rule::Rule;
+
+#[cfg(test)]
+mod tests;

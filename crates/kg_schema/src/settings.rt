@@ -1,6 +1,6 @@
 //! What a body sets, field by field. A value that breaks a rule of its field sets nothing.
 
-ghost use Rattle.std.specs.Prelude.{◌≡◌, ◌×◌, ◌≤◌, ◌≤ℤ◌, IfOk, IfSome, option_map};
+ghost use Rattle.std.specs.Prelude.{◌≡◌, ◌≤◌, ◌≤ℤ◌, IfOk, IfSome, option_map};
 ghost use Rattle.serde_json.specs.View.{view};
 ghost use Rattle.kg_schema.specs.Settings.{flag_at, https_at, id_at, integer_at, limit_by_at, reference_at, size_unit_at, text_at, texts_at, url_at, value_at, whole_at};
 

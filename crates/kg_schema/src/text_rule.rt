@@ -70,7 +70,7 @@ pub fn has_form(alloc: Global, word: Word, text: &str) -> Result<bool, NoMemory>
         Word::RouteHost => Ok(has_route_host_form(text.as_bytes())),
         Word::Method => Ok(has_method_form(text.as_bytes())),
         Word::Token => Ok(is_token(text.as_bytes())),
-        Word::AddressBlock => has_ipv4_block_form(alloc, text),
+        Word::AddressBlock => has_ipv4_block_form(alloc, text.as_bytes()),
         Word::Edit => Ok(has_edit_form(text)),
         Word::HeaderEdit => Ok(has_header_edit_form(text)),
         Word::HeaderRename => Ok(has_header_rename_form(text)),

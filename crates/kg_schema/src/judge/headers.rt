@@ -42,6 +42,7 @@ pub fn is_any_set(members: &Map<String, Value>) -> bool
     false
 }
 
+#[tactic(auto, using(crate::proofs::RuleLemmas::sooner_assoc, crate::proofs::RuleLemmas::sooner_none))]
 fn each_header_rule(alloc: Global, members: &Map<String, Value>) -> Result<Option<Rule>, NoMemory>
     ensures { IfOk result (λ rule. rule ≡ each_header_rule (members_view members.now.entries)) }
 {

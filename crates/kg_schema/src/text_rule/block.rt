@@ -1,6 +1,6 @@
 //! IPv4 addresses and blocks of them.
 
-ghost use Rattle.std.specs.Prelude.{◌≡◌, ◌==◌, ◌<◌, ◌≤◌, ◌+◌, ◌^◌, ◌||◌, drop, IfOk, Some, None, if◌then◌else◌, length, map, nat_lt, nat_le, IsTrue};
+ghost use Rattle.std.specs.Prelude.{◌≡◌, ◌==◌, ◌<◌, ◌≤◌, ◌+◌, ◌^◌, ◌&&◌, ◌||◌, drop, IfOk, Some, None, if◌then◌else◌, length, map, nat_lt, nat_le, IsTrue};
 ghost use Rattle.std.specs.List.{before_first, list_all, list_any, slice_split};
 ghost use Rattle.std.specs.Char.{is_ascii_digit};
 ghost use Rattle.std.specs.Str.Parse.{digits_value};
@@ -12,10 +12,10 @@ use kg_text::NoMemory;
 use std::alloc::{AllocError, Global};
 
 /// An IPv4 address, or a block: an address, `/` and 0 to 32.
-pub fn has_ipv4_block_form(alloc: Global, text: &str) -> Result<bool, NoMemory>
+pub fn has_ipv4_block_form(alloc: Global, text: &[u8]) -> Result<bool, NoMemory>
     ensures { IfOk result (λ has. has ≡ has_ipv4_block_form text.now) }
 {
-    let (address, behind) = split_before(b'/', text.as_bytes());
+    let (address, behind) = split_before(b'/', text);
     Ok(is_ipv4(alloc, address)? && is_length(behind))
 }
 
@@ -32,8 +32,13 @@ fn is_length(behind: &[u8]) -> bool
 fn is_ipv4(alloc: Global, text: &[u8]) -> Result<bool, AllocError>
     ensures { IfOk result (λ is. is ≡ is_ipv4 text.now) }
 {
-    let parts = parts_of(alloc, text)?;
-    Ok(parts.len() == 4 && are_octets(parts.as_slice()))
+    Ok(are_four_octets(parts_of(alloc, text)?.as_slice()))
+}
+
+fn are_four_octets(parts: &[&[u8]]) -> bool
+    ensures { result ≡ (length parts.now == 4 && list_all (λ part. is_decimal_within 255 part.now) parts.now) }
+{
+    parts.len() == 4 && are_octets(parts)
 }
 
 fn are_octets(parts: &[&[u8]]) -> bool

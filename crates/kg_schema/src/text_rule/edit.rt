@@ -60,6 +60,7 @@ fn is_barred(name: &[u8]) -> bool
 }
 
 // Does a template begin somewhere?
+#[tactic(auto, using(crate::proofs::TextLemmas::template_at))]
 fn has_template(text: &[u8]) -> bool
     ensures { result ≡ has_template text.now }
 {

@@ -3,5 +3,5 @@ use Rattle.serde_json.specs.View.{members_view}
 use Rattle.kg_schema.specs.Judging.{is_any_set}
 use Rattle.kg_schema.proofs.judge.headers.is_any_set.Given as goal
 
-abbrev pub invariant-loop-_name : goal.invariant-loop-name
-invariant-loop-_name l = is_any_set (members_view l._name-iterator) ≡ is_any_set (members_view l.fn.members.entries)
+abbrev pub invariant-loop-name : goal.invariant-loop-name
+invariant-loop-name l = is_any_set (members_view l._name-iterator) ≡ is_any_set (members_view l.fn.members.entries)
