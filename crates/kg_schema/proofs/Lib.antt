@@ -1,4 +1,5 @@
 mod DistinctTexts
+mod InsideLemmas
 mod ItemLemmas
 mod PatternLemmas
 mod RuleLemmas

@@ -35,6 +35,9 @@ position_or_end test xs =
 one_more : (n : ℕ) → 1 + n ≡ suc n
 one_more n = omega arith
 
+some_left : (n : ℕ) → (suc n == 0) ≡ false
+some_left n = grind (arith, nat_tests)
+
 -- nothing stands from the first such byte on exactly where there is none
 pub from_first-empty : (test : ℕ → Bool) (xs : List ℕ) → (length (from_first test xs) == 0) ≡ not (list_any test xs)
 from_first-empty test [] = refl
@@ -42,7 +45,7 @@ from_first-empty test (x ∷ xs) = at_first (test x) (from_first-empty test xs)
   where
     at_first : (b : Bool) → (length (from_first test xs) == 0) ≡ not (list_any test xs)
         → (length (drop (cond (not b) (1 + position_or_len test xs) 0) (x ∷ xs)) == 0) ≡ not (b || list_any test xs)
-    at_first true later = refl
+    at_first true later = some_left (length xs)
     at_first false later = rw (one_more (position_or_len test xs)) later
 
 -- what stands behind the first such byte

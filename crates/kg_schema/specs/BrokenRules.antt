@@ -59,10 +59,10 @@ abbrev pub told : List ℕ → Option Rule → List Fault
 told path None = []
 told path (Some rule) = (path, rule) ∷ []
 
--- what is told of the table that stands inside a field
-abbrev pub within : Field → (Table → List Fault) → List Fault
-within (Inside table) faults = faults table
-within _ faults = []
+-- the table that stands inside a field
+abbrev pub table_inside : Field → Option Table
+table_inside (Inside table) = Some table
+table_inside _ = None
 
 -- ---- all fields
 
@@ -77,7 +77,7 @@ abbrev mutual
 
   -- the faults inside the value of a field: a dot stands between the names
   pub faults_inside : Data → Field → List ℕ → List Fault
-  faults_inside (object members) field path = within field (λ table. faults_in members table (path ++ codes "."))
+  faults_inside (object members) field path = option_map_or (λ table. faults_in members table (path ++ codes ".")) (table_inside field) []
   faults_inside null field path = []
   faults_inside (boolean b) field path = []
   faults_inside (number n) field path = []

@@ -1,9 +1,10 @@
 //! The rules that the fields of a body break, each judged by itself.
 
-ghost use Rattle.std.specs.Prelude.{◌≡◌, ◌++◌, IfOk, OnOk, fold};
+ghost use Rattle.std.specs.Prelude.{◌≡◌, ◌+◌, ◌++◌, IfOk, IfSome, OnOk, fold};
 ghost use Rattle.serde_json.specs.View.{members_view, view};
 ghost use Rattle.kg_entities.specs.PluginNames.{plugin_named};
-ghost use Rattle.kg_schema.specs.BrokenRules.{faults_in, faults_inside, field_faults, field_rule, named_plugin, object_rule, told};
+ghost use Rattle.kg_schema.specs.BrokenRules.{faults_in, faults_inside, field_faults, field_rule, named_plugin, object_rule, table_inside, told};
+ghost use Rattle.kg_schema.specs.FieldTables.{depth_of, levels};
 ghost use Rattle.kg_schema.specs.Rules.{in_order, tell};
 
 use crate::constant::is_constant;
@@ -78,6 +79,7 @@ pub fn judge_members(
 
 /// Tells the faults of the value of one field, and of what stands inside it.
 #[cycle(judging)]
+#[tactic(auto, using(crate::proofs::InsideLemmas::no_object, crate::proofs::InsideLemmas::no_table, crate::proofs::InsideLemmas::table_of_members))]
 pub fn judge_member(
     alloc: Global,
     value: &Value,
@@ -87,16 +89,47 @@ pub fn judge_member(
 ) -> Result<(), NoMemory>
     ensures ok { OnOk result (faults.new ≡ fold tell faults.old (told path.now (field_rule field (view value.now)) ++ faults_inside (view value.now) field path.now)) }
 {
-    if let Some(rule) = field_rule(alloc, field, value)? {
-        faults.tell(Text::from_str(alloc, path)?, rule)?;
+    tell_rule(alloc, value, field, path, faults)?;
+    match table_inside(field) {
+        Some(table) => match value.as_object() {
+            Some(members) => {
+                let front = joined(alloc, path, ".")?;
+                judge_members(alloc, members, table, front.as_str(), faults)
+            }
+            None => Ok(()),
+        },
+        None => Ok(()),
     }
-    if let Field::Inside(table) = field {
-        if let Some(members) = value.as_object() {
-            let front = joined(alloc, path, ".")?;
-            judge_members(alloc, members, table, front.as_str(), faults)?;
-        }
+}
+
+// Tells the rule that the value of a field breaks, if it breaks one.
+fn tell_rule(
+    alloc: Global,
+    value: &Value,
+    field: Field,
+    path: &str,
+    faults: &mut Faults,
+) -> Result<(), NoMemory>
+    ensures { OnOk result (faults.new ≡ fold tell faults.old (told path.now (field_rule field (view value.now)))) }
+{
+    match field_rule(alloc, field, value)? {
+        Some(rule) => faults.tell(Text::from_str(alloc, path)?, rule),
+        None => Ok(()),
     }
-    Ok(())
+}
+
+// The table that stands inside a field.
+fn table_inside(field: Field) -> Option<Table>
+    ensures value { result ≡ table_inside field }
+    ensures depth { IfSome result (λ table. depth_of field ≡ levels table + 1) }
+{
+    match field {
+        Field::Inside(table) => Some(table),
+        Field::Unknown => None,
+        Field::Dropped => None,
+        Field::Fixed(_) => None,
+        Field::Judged(_) => None,
+    }
 }
 
 fn joined(alloc: Global, front: &str, name: &str) -> Result<Text, NoMemory>

@@ -1,14 +1,18 @@
 //! Bodies that break no rule of a field.
 
-ghost use Rattle.std.specs.Prelude.{◌≡◌, [], IfErr, IfOk, OnOk};
+ghost use Rattle.std.specs.Prelude.{◌≡◌, [], IfErr, IfOk, OnOk, codes};
 ghost use Rattle.serde_json.specs.View.{view};
 ghost use Rattle.kg_schema.specs.BrokenRules.{field_faults};
 ghost use Rattle.kg_schema.specs.Rules.{Tells};
+ghost use Rattle.kg_schema.specs.Settings.{id_at, reference_at};
+ghost use Rattle.kg_schema.specs.declared.reference.Mention.TheVariants as mention;
 ghost use Rattle.kg_schema.specs.declared.form.FormError.TheVariants.{NoMemory as OutOfMemory};
 
 use crate::fault::Broken;
 use crate::fields::field_faults;
-use kg_entities::Kind;
+use crate::reference::{Mention, Reference};
+use crate::settings::{id_at, reference_at};
+use kg_entities::{Id, Kind};
 use kg_text::{List, NoMemory};
 use serde_json::Value;
 use std::alloc::{AllocError, AllocFailed, Global};
@@ -62,6 +66,34 @@ impl Form {
         ensures { result.now ≡ self.now.body }
     {
         &self.body
+    }
+
+    /// The id that the body sets.
+    pub fn id(&self) -> Option<Id>
+        ensures { result ≡ id_at (view self.now.body) }
+    {
+        id_at(&self.body)
+    }
+
+    /// The service that the body names.
+    pub fn service(&self, alloc: Global) -> Result<Option<Reference>, NoMemory>
+        ensures { IfOk result (λ found. found ≡ reference_at mention.Name (codes "service") (view self.now.body)) }
+    {
+        reference_at(alloc, Mention::Name, "service", &self.body)
+    }
+
+    /// The route that the body names.
+    pub fn route(&self, alloc: Global) -> Result<Option<Reference>, NoMemory>
+        ensures { IfOk result (λ found. found ≡ reference_at mention.Name (codes "route") (view self.now.body)) }
+    {
+        reference_at(alloc, Mention::Name, "route", &self.body)
+    }
+
+    /// The consumer that the body names.
+    pub fn consumer(&self, alloc: Global) -> Result<Option<Reference>, NoMemory>
+        ensures { IfOk result (λ found. found ≡ reference_at mention.Username (codes "consumer") (view self.now.body)) }
+    {
+        reference_at(alloc, Mention::Username, "consumer", &self.body)
     }
 }
 

@@ -59,7 +59,7 @@ fn add_test(
     ensures { OnOk result (tests.new.entries ≡ with_test tests.old.entries test) }
 {
     if let Some(test) = test {
-        let name = test.name.to_text(alloc)?;
+        let name = Text::from_str(alloc, test.name.as_str())?;
         tests.insert(name, test)?;
     }
     Ok(())

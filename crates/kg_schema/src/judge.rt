@@ -1,6 +1,6 @@
 //! Which rule a value breaks, by the shape of its field.
 
-mod headers;
+pub mod headers;
 
 ghost use Rattle.std.specs.Prelude.{◌≡◌, ◌==◌, IfOk, Some, None, if◌then◌else◌, option_map, length};
 ghost use Rattle.std.specs.Str.{bytes_eq};

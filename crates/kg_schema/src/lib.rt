@@ -6,6 +6,7 @@ mod constant;
 mod fault;
 mod fields;
 mod form;
+mod header_tests;
 mod judge;
 mod parts;
 mod reference;
@@ -20,6 +21,7 @@ mod word;
 
 pub use crate::fault::Broken;
 pub use crate::form::{Form, FormError, read_form};
+pub use crate::reference::Reference;
 pub use crate::rule::Rule;
 
 #[cfg(test)]

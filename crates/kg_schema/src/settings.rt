@@ -15,8 +15,8 @@ use kg_text::{List, NoMemory, Text};
 use serde_json::Value;
 use std::alloc::Global;
 
-// The value of the member of this name, if it is set and breaks no rule of the shape.
-fn value_at<'v>(
+/// The value of the member of this name, if it is set and breaks no rule of the shape.
+pub fn value_at<'v>(
     alloc: Global,
     shape: Shape,
     name: &str,

@@ -53,7 +53,8 @@ fn each_header_rule(alloc: Global, members: &Map<String, Value>) -> Result<Optio
     Ok(rule)
 }
 
-fn header_rule(alloc: Global, name: &str, value: &Value) -> Result<Option<Rule>, NoMemory>
+/// The first rule that one header breaks.
+pub fn header_rule(alloc: Global, name: &str, value: &Value) -> Result<Option<Rule>, NoMemory>
     ensures { IfOk result (λ rule. rule ≡ header_rule name.now (view value.now)) }
 {
     let rule = values_rule(alloc, value)?;
