@@ -1,12 +1,13 @@
 -- A token in lower case is a token, and its own lower case.
-use Rattle.std.proofs.Common.{◌≡◌, ℕ, ◌+◌, true, false, ◌&&◌, cond, eqb, ltb, List, [], ◌∷◌, length, map, refl, sym, ap, ◌∙◌, arith, Ok, inl, inr}
+use Rattle.std.proofs.Common.{◌≡◌, ℕ, ◌+◌, ◌<◌, suc, Bool, true, false, ◌&&◌, cond, eqb, ltb, List, [], ◌∷◌, length, map, refl, sym, ap, ◌∙◌, arith, Ok, Err, inl, inr, IsAscii}
 use Rattle.std.specs.Char.{is_ascii_alphanumeric, to_ascii_lowercase}
-use Rattle.std.specs.List.{prefix_len}
+use Rattle.std.specs.List.{All, prefix_len}
 use Rattle.std.specs.Str.{str_to_ascii_lowercase}
-use Rattle.std.proofs.lemmas.Bool.{cases_Bool, cond-true, cond-false, or_left}
+use Rattle.std.proofs.lemmas.Bool.{and_parts, cases_Bool, cond-true, cond-false, eqb-true, or_left}
 use Rattle.std.proofs.lemmas.Bool.Decides.{nat_tests}
 use Rattle.std.proofs.lemmas.List.{length-map}
-use Rattle.std.proofs.lemmas.Str.Ascii.{lowercase-lowercase}
+use Rattle.std.proofs.lemmas.List.Elements.{All-cons, All-nil}
+use Rattle.std.proofs.lemmas.Str.Ascii.{IsAscii-from_all, lowercase-lowercase}
 use Rattle.kg_text.specs.Names.{is_tchar, is_token, name_of, IsName}
 
 upper_letter : (b : ℕ) → ltb b 65 ≡ false → ltb b 91 ≡ true → (is_ascii_alphanumeric b ≡ true) × (is_ascii_alphanumeric (b + 32) ≡ true)
@@ -52,3 +53,29 @@ IsName-lower bytes token =
     ∙ token
     in
     name_of_token lower still ∙ ap Ok (lower_lower bytes)
+
+tchar_ascii : (b : ℕ) → is_tchar b ≡ true → b < 128
+tchar_ascii b h = grind (arith, nat_tests)
+
+tchars_ascii : (bytes : List ℕ) → prefix_len is_tchar bytes ≡ length bytes → All (λ b. b < 128) bytes
+tchars_ascii [] h = All-nil (λ b. b < 128)
+tchars_ascii (b ∷ rest) h =
+    elim (cases_Bool (is_tchar b)) [
+      | inl here ↦
+          let one : 1 + prefix_len is_tchar rest ≡ suc (length rest) = sym (cond-true (is_tchar b) _ _ here) ∙ h in
+          let same : prefix_len is_tchar rest ≡ length rest = omega arith in
+          All-cons (λ b. b < 128) b rest (tchar_ascii b here) (tchars_ascii rest same)
+      | inr gone ↦
+          let none : 0 ≡ suc (length rest) = sym (cond-false (is_tchar b) _ _ gone) ∙ h in
+          absurd (omega arith)
+    ]
+
+-- a name is ASCII
+pub name_ascii : (name : List ℕ) → IsName name → IsAscii name
+name_ascii name h =
+    elim (cases_Bool (is_token name)) [
+      | inl token ↦ IsAscii-from_all name (tchars_ascii name (eqb-true _ _ (and_parts _ _ token).1))
+      | inr gone ↦
+          let e : name_of name ≡ Err (prefix_len is_tchar name) = cond-false (is_token name) _ _ gone in
+          absurd cc
+    ]

@@ -11,6 +11,7 @@ ghost use Rattle.kg_text.specs.Reading.{Gives};
 use crate::error::{NoMemory, TextError};
 use std::alloc::{AllocError, Global};
 use std::marker::Model;
+use std::str;
 
 /// The name of a header field, kept in lower case. Contracts see it as its bytes.
 #[derive(Debug, Drop)]
@@ -65,6 +66,16 @@ impl Name {
         ensures { result.now ≡ self.now }
     {
         self.raw.as_slice()
+    }
+
+    /// The bytes as a `str`.
+    pub fn as_str(&self) -> &str
+        ensures { result.now ≡ self.now }
+    {
+        match str::from_utf8(self.raw.as_slice()) {
+            Ok(text) => text,
+            Err(_) => unreachable!(),
+        }
     }
 
     /// Is this the name that `raw` spells, in any case?

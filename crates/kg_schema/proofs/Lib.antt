@@ -1,0 +1,6 @@
+mod DistinctTexts
+mod InsideLemmas
+mod ItemLemmas
+mod PatternLemmas
+mod RuleLemmas
+mod TextLemmas

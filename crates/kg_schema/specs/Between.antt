@@ -1,0 +1,221 @@
+-- The rules between the fields of a body, its base and the rows that it names (Kong Admin API, the
+-- entities' pages and the page of each plugin; the words are this project's own).
+use Rattle.std.specs.Prelude.{ℕ, ◌==◌, Bool, true, false, not, ◌&&◌, ◌||◌, nat_le, List, [], ◌∷◌, ◌++◌, length, Option, Some, None, is_some, is_none, option_and_then, codes, if◌then◌else◌}
+use Rattle.std.specs.Option.{option_map_or}
+use Rattle.std.specs.Str.{bytes_eq}
+use Rattle.serde_json.specs.Data.{Data}
+use Rattle.serde_json.specs.Find.{as_object, get}
+use Rattle.kg_entities.specs.PluginNames.{plugin_of, same_plugin}
+use Rattle.kg_entities.specs.declared.config.Acl.{Acl}
+use Rattle.kg_entities.specs.declared.config.Config.{Config}
+use Rattle.kg_entities.specs.declared.config.Config.TheVariants as config_of
+use Rattle.kg_entities.specs.declared.config.IpRestriction.{IpRestriction}
+use Rattle.kg_entities.specs.declared.config.RateLimiting.{RateLimiting}
+use Rattle.kg_entities.specs.declared.config.Termination.{Termination}
+use Rattle.kg_entities.specs.ValidRows.{is_for_no_consumer}
+use Rattle.kg_entities.specs.declared.consumer.AclRow.{AclRow}
+use Rattle.kg_entities.specs.declared.consumer.BasicCred.{BasicCred}
+use Rattle.kg_entities.specs.declared.consumer.Consumer.{Consumer}
+use Rattle.kg_entities.specs.declared.consumer.KeyCred.{KeyCred}
+use Rattle.kg_entities.specs.declared.entity.Entity.{Entity}
+use Rattle.kg_entities.specs.declared.entity.Entity.TheVariants as row
+use Rattle.kg_entities.specs.declared.entity.Kind.{Kind}
+use Rattle.kg_entities.specs.declared.entity.Kind.TheVariants as kind
+use Rattle.kg_entities.specs.declared.plugin.PluginName.{PluginName}
+use Rattle.kg_entities.specs.declared.plugin.PluginRow.{PluginRow}
+use Rattle.kg_entities.specs.declared.route.Route.{Route}
+use Rattle.kg_entities.specs.declared.service.Service.{Service}
+use Rattle.kg_schema.specs.Bases.{BaseValue, fixed_id, given_word, old_as, route_of, key_of, basic_of, acl_of, plugin_row_of}
+use Rattle.kg_schema.specs.BrokenRules.{faults_in, named_plugin}
+use Rattle.kg_schema.specs.Finished.{row_over}
+use Rattle.kg_schema.specs.Judging.{is_set}
+use Rattle.kg_schema.specs.Rules.{Fault}
+use Rattle.kg_schema.specs.Settings.{text_at, id_at, inside}
+use Rattle.kg_schema.specs.declared.base.Links.{Links}
+use Rattle.kg_schema.specs.declared.base.ParentField.{ParentField}
+use Rattle.kg_schema.specs.declared.base.ParentField.TheVariants as parent
+use Rattle.kg_schema.specs.declared.rule.Rule.{Rule}
+use Rattle.kg_schema.specs.declared.rule.Rule.TheVariants.{Required, Fixed, Exclusive}
+use Rattle.kg_schema.specs.declared.table.Table.TheVariants as table
+use Rattle.kg_schema.specs.declared.word.Word.{Word}
+use Rattle.kg_schema.specs.declared.word.Word.TheVariants as word
+
+-- the rule at this field, if it is broken
+abbrev pub fault_if : Bool → List ℕ → Rule → List Fault
+fault_if broken field rule = if broken then (field, rule) ∷ [] else []
+
+-- ---- what the base and the parent fix
+
+-- both are there and differ
+abbrev pub differ : {A : Type 0} → (A → A → Bool) → Option A → Option A → Bool
+differ same a b = option_map_or (λ x. option_map_or (λ y. not (same x y)) b false) a false
+
+abbrev pub same_number : ℕ → ℕ → Bool
+same_number a b = a == b
+
+-- the body names another id than the row has
+abbrev pub id_faults : Data → BaseValue → List Fault
+id_faults body base = fault_if (differ same_number (id_at body) (fixed_id base)) (codes "id") Fixed
+
+-- the field that a word stands for, and how it is spelled: a plugin has none
+abbrev pub word_field : Kind → Option (List ℕ × Word)
+word_field kind.Service = Some (codes "name", word.Name)
+word_field kind.Route = Some (codes "name", word.Name)
+word_field kind.Consumer = Some (codes "username", word.Username)
+word_field kind.KeyCred = Some (codes "key", word.FreeText)
+word_field kind.BasicCred = Some (codes "username", word.FreeText)
+word_field kind.Acl = Some (codes "group", word.FreeText)
+word_field kind.Plugin = None
+
+-- the body says another word than the one by which the row is made
+abbrev pub word_faults : Kind → Data → BaseValue → List Fault
+word_faults kind body base =
+    option_map_or (λ field. fault_if (differ bytes_eq (text_at field.1 field.0 body) (given_word base)) field.0 Fixed) (word_field kind) []
+
+-- the field that names a parent
+abbrev pub parent_text : ParentField → List ℕ
+parent_text parent.Service = codes "service"
+parent_text parent.Route = codes "route"
+parent_text parent.Consumer = codes "consumer"
+
+-- the body names another parent than the one under which the row stands
+abbrev pub strange_faults : Option ParentField → List Fault
+strange_faults strange = option_map_or (λ field. (parent_text field, Fixed) ∷ []) strange []
+
+-- ---- the finished row, by its kind
+
+abbrev pub is_set_at : List ℕ → Data → Bool
+is_set_at name body = option_map_or is_set (get name body) false
+
+-- a url stands beside a part of it
+abbrev pub doubles_url : Data → Bool
+doubles_url body =
+    is_set_at (codes "url") body
+    && (is_set_at (codes "protocol") body || is_set_at (codes "host") body || is_set_at (codes "port") body || is_set_at (codes "path") body)
+
+abbrev pub service_faults : Data → Service → List Fault
+service_faults body service =
+    fault_if (doubles_url body) (codes "url") Exclusive
+    ++ fault_if (length service.host == 0) (codes "host") Required
+
+-- neither the caller nor the old row names the row that is needed
+abbrev pub is_missing : {R : Type 0} → Option ℕ → Option R → Bool
+is_missing link old = is_none old && is_none link
+
+-- nothing is set that a request can fit
+abbrev pub fits_nothing : Route → Bool
+fits_nothing route =
+    length route.methods == 0 && length route.hosts == 0 && length route.headers == 0 && length route.paths == 0
+
+abbrev pub route_faults : BaseValue → Links → Route → List Fault
+route_faults base links route =
+    fault_if (is_missing links.service (old_as route_of base)) (codes "service") Required
+    ++ fault_if (fits_nothing route) (codes "paths") Required
+
+abbrev pub consumer_faults : Consumer → List Fault
+consumer_faults consumer =
+    fault_if (is_none consumer.username && is_none consumer.custom_id) (codes "username") Required
+
+abbrev pub key_faults : BaseValue → Links → KeyCred → List Fault
+key_faults base links credential =
+    fault_if (is_missing links.consumer (old_as key_of base)) (codes "consumer") Required
+    ++ fault_if (length credential.key == 0) (codes "key") Required
+
+abbrev pub basic_faults : BaseValue → Links → BasicCred → List Fault
+basic_faults base links credential =
+    fault_if (is_missing links.consumer (old_as basic_of base)) (codes "consumer") Required
+    ++ fault_if (length credential.username == 0) (codes "username") Required
+    ++ fault_if (length credential.hash == 0) (codes "password") Required
+
+abbrev pub acl_faults : BaseValue → Links → AclRow → List Fault
+acl_faults base links membership =
+    fault_if (is_missing links.consumer (old_as acl_of base)) (codes "consumer") Required
+    ++ fault_if (length membership.group == 0) (codes "group") Required
+
+-- ---- plugins
+
+abbrev pub has_both : List (List ℕ) → List (List ℕ) → Bool
+has_both a b = not (length a == 0) && not (length b == 0)
+
+abbrev pub has_neither : List (List ℕ) → List (List ℕ) → Bool
+has_neither a b = length a == 0 && length b == 0
+
+abbrev pub groups_faults : Acl → List Fault
+groups_faults config =
+    fault_if (has_both config.allow config.deny) (codes "config.allow") Exclusive
+    ++ fault_if (has_neither config.allow config.deny) (codes "config.allow") Required
+
+abbrev pub ip_restriction_faults : IpRestriction → List Fault
+ip_restriction_faults config = fault_if (has_neither config.allow config.deny) (codes "config.allow") Required
+
+abbrev pub rate_limiting_faults : RateLimiting → List Fault
+rate_limiting_faults config =
+    fault_if (is_none config.second && is_none config.minute && is_none config.hour && is_none config.day) (codes "config.minute") Required
+
+abbrev pub termination_faults : Termination → List Fault
+termination_faults config =
+    fault_if (is_some config.message && is_some config.body) (codes "config.message") Exclusive
+    ++ fault_if (is_some config.content_type && is_none config.body) (codes "config.body") Required
+
+-- the rules between the fields of a config
+abbrev pub config_faults : Config → List Fault
+config_faults (config_of.Acl config) = groups_faults config
+config_faults (config_of.IpRestriction config) = ip_restriction_faults config
+config_faults (config_of.RateLimiting config) = rate_limiting_faults config
+config_faults (config_of.RequestTermination config) = termination_faults config
+config_faults _ = []
+
+-- the plugin of the old row
+abbrev pub old_plugin : BaseValue → Option PluginName
+old_plugin base = option_and_then (λ old. Some (plugin_of old.config)) (old_as plugin_row_of base)
+
+-- the faults of the fields of a config that had to wait for the old row's name
+abbrev pub late_faults : Data → PluginName → List Fault
+late_faults config name =
+    option_map_or (λ members. faults_in members (table.Config name) (codes "config.")) (as_object config) []
+
+abbrev pub waiting_faults : Data → BaseValue → List Fault
+waiting_faults body base =
+    if is_none (named_plugin body)
+    then option_map_or (late_faults (inside (codes "config") body)) (old_plugin base) []
+    else []
+
+-- a plugin that is known: it runs with its config, and perhaps for no consumer
+abbrev pub known_plugin_faults : PluginRow → List Fault
+known_plugin_faults plugin =
+    fault_if (is_for_no_consumer plugin.config && is_some plugin.scope.consumer) (codes "consumer") Fixed
+    ++ config_faults plugin.config
+
+abbrev pub plugin_faults : Data → BaseValue → PluginRow → List Fault
+plugin_faults body base plugin =
+    waiting_faults body base
+    ++ (if is_none (named_plugin body) && is_none (old_plugin base)
+        then (codes "name", Required) ∷ []
+        else known_plugin_faults plugin)
+
+-- ---- all rules
+
+abbrev pub row_faults : Data → BaseValue → Links → Entity → List Fault
+row_faults body base links (row.Service service) = service_faults body service
+row_faults body base links (row.Route route) = route_faults base links route
+row_faults body base links (row.Consumer consumer) = consumer_faults consumer
+row_faults body base links (row.KeyCred credential) = key_faults base links credential
+row_faults body base links (row.BasicCred credential) = basic_faults base links credential
+row_faults body base links (row.Acl membership) = acl_faults base links membership
+row_faults body base links (row.Plugin plugin) = plugin_faults body base plugin
+
+-- the body names another plugin than the old row has
+abbrev pub is_renamed : Kind → Data → BaseValue → Bool
+is_renamed kind.Plugin body base = differ same_plugin (named_plugin body) (old_plugin base)
+is_renamed _ body base = false
+
+-- the rules between fields that a body breaks over a base, with the rows that it names; `strange` is the
+-- field of its parent, where the body names another one. Of a body that renames a plugin only that is told.
+abbrev pub faults_between : Kind → Data → BaseValue → Links → Option ParentField → List Fault
+faults_between kind body base links strange =
+    if is_renamed kind body base
+    then (codes "name", Fixed) ∷ []
+    else id_faults body base
+      ++ word_faults kind body base
+      ++ strange_faults strange
+      ++ row_faults body base links (row_over kind body base links)

@@ -1,0 +1,16 @@
+pub mod Bases
+pub mod Between
+pub mod BrokenRules
+pub mod Choices
+pub mod FieldTables
+pub mod Finished
+pub mod FinishedConfigs
+pub mod Judging
+pub mod Rules
+pub mod Settings
+pub mod Shown
+pub mod ShownConfigs
+pub mod ShownParts
+pub mod TextRules
+pub mod UrlParts
+pub mod Urls

@@ -1,0 +1,34 @@
+//! Bodies of JSON as rows of the gateway's configuration: which rules a body breaks, what it sets,
+//! and how a row is shown.
+#![tactic(auto)]
+
+mod base;
+mod constant;
+mod fault;
+mod fields;
+mod form;
+mod header_tests;
+mod judge;
+mod parts;
+mod reference;
+mod row;
+mod rule;
+mod settings;
+mod shape;
+mod show;
+mod table;
+mod text_rule;
+mod texts;
+mod url;
+mod word;
+
+pub use crate::base::{Base, Links, ParentField};
+pub use crate::fault::Broken;
+pub use crate::form::{Form, FormError, read_form};
+pub use crate::reference::Reference;
+pub use crate::row::{finish, finish_under};
+pub use crate::rule::Rule;
+pub use crate::show::show_entity;
+
+#[cfg(test)]
+mod tests;

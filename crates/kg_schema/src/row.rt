@@ -1,0 +1,272 @@
+//! Rows out of bodies: what a body sets, over an old row or the defaults, and the rules between its
+//! fields.
+
+ghost use Rattle.std.specs.Prelude.{◌≡◌, [], IfOk, IfErr, OnOk, fold, option_map};
+ghost use Rattle.std.specs.Str.{bytes_eq};
+ghost use Rattle.serde_json.specs.View.{view};
+ghost use Rattle.kg_schema.specs.Bases.{base_of, given_word};
+ghost use Rattle.kg_schema.specs.Between.{differ, faults_between, id_faults, is_renamed, parent_text, row_faults, strange_faults, word_faults, word_field};
+ghost use Rattle.kg_schema.specs.Finished.{row_over};
+ghost use Rattle.kg_schema.specs.Rules.{Tells, tell};
+ghost use Rattle.kg_schema.specs.Settings.{text_at};
+
+mod config;
+mod consumer;
+mod defaults;
+mod member;
+mod password;
+mod plugin;
+mod route;
+mod service;
+mod set;
+mod tell;
+
+use crate::base::{Base, Links, ParentField};
+use crate::fault::Faults;
+use crate::fields::named_plugin;
+use crate::row::consumer::{
+    acl_before, acl_over, basic_before, basic_over, consumer_before, consumer_over, key_before,
+    key_over, tell_acl, tell_basic, tell_consumer, tell_key,
+};
+use crate::row::plugin::{old_plugin, plugin_before, plugin_over, tell_plugin};
+use crate::row::route::{route_before, route_over, tell_route};
+use crate::row::service::{service_before, service_over, tell_service};
+use crate::row::tell::tell_if;
+use crate::form::{Form, FormError};
+use crate::rule::Rule;
+use crate::settings::{id_at, text_at};
+use crate::word::Word;
+use kg_entities::{Entity, Kind};
+use kg_text::NoMemory;
+use serde_json::Value;
+use std::alloc::Global;
+
+/// Makes the row of a form: what its body sets, over the old row or over the defaults of its kind,
+/// with the rows that it names. An old row has to be of the form's kind; another counts as none.
+///
+/// `Violation` has exactly the rules between fields that are broken, in byte order of their paths.
+pub fn finish(alloc: Global, form: &Form, base: Base<'_>, links: &Links) -> Result<Entity, FormError>
+    ensures row { IfOk result (λ row. row ≡ row_over form.now.kind (view form.now.body) (base_of base.entry) links.now) }
+    ensures valid { OnOk result (faults_between form.now.kind (view form.now.body) (base_of base.entry) links.now None ≡ []) }
+    ensures violation { IfErr result (λ e. Tells e (faults_between form.now.kind (view form.now.body) (base_of base.entry) links.now None)) }
+{
+    finish_under(alloc, form, &base, links, None)
+}
+
+/// As [`finish`], for a row that stands under a parent: `strange` is the field of its parent, where
+/// the body names another one there, which breaks `fixed`.
+#[tactic(auto, using(crate::proofs::RuleLemmas::in_order_none))]
+pub fn finish_under(
+    alloc: Global,
+    form: &Form,
+    base: &Base<'_>,
+    links: &Links,
+    strange: Option<ParentField>,
+) -> Result<Entity, FormError>
+    ensures row { IfOk result (λ row. row ≡ row_over form.now.kind (view form.now.body) (base_of base.now) links.now) }
+    ensures valid { OnOk result (faults_between form.now.kind (view form.now.body) (base_of base.now) links.now strange ≡ []) }
+    ensures violation { IfErr result (λ e. Tells e (faults_between form.now.kind (view form.now.body) (base_of base.now) links.now strange)) }
+{
+    let row = row_over(alloc, form.kind(), form.body(), base, links)?;
+    let faults = faults_between(alloc, form, base, links, strange, &row)?;
+    if faults.is_empty() {
+        return Ok(row);
+    }
+    Err(FormError::Violation(faults.into_list(alloc)?))
+}
+
+fn row_over(
+    alloc: Global,
+    kind: Kind,
+    body: &Value,
+    base: &Base<'_>,
+    links: &Links,
+) -> Result<Entity, NoMemory>
+    ensures { IfOk result (λ row. row ≡ row_over kind (view body.now) (base_of base.now) links.now) }
+{
+    let stamps = base.stamps(body);
+    match kind {
+        Kind::Service => {
+            let before = service_before(alloc, base, stamps)?;
+            Ok(Entity::Service(service_over(alloc, body, before)?))
+        }
+        Kind::Route => {
+            let before = route_before(alloc, base, stamps)?;
+            Ok(Entity::Route(route_over(alloc, body, links, before)?))
+        }
+        Kind::Consumer => {
+            let before = consumer_before(alloc, base, stamps)?;
+            Ok(Entity::Consumer(consumer_over(alloc, body, before)?))
+        }
+        Kind::KeyCred => {
+            let before = key_before(alloc, base, stamps)?;
+            Ok(Entity::KeyCred(key_over(alloc, body, links, before)?))
+        }
+        Kind::BasicCred => {
+            let before = basic_before(alloc, base, stamps)?;
+            Ok(Entity::BasicCred(basic_over(alloc, body, links, before)?))
+        }
+        Kind::Acl => {
+            let before = acl_before(alloc, base, stamps)?;
+            Ok(Entity::Acl(acl_over(alloc, body, links, before)?))
+        }
+        Kind::Plugin => {
+            let before = plugin_before(alloc, base, stamps, body)?;
+            Ok(Entity::Plugin(plugin_over(alloc, body, links, before)?))
+        }
+    }
+}
+
+fn faults_between(
+    alloc: Global,
+    form: &Form,
+    base: &Base<'_>,
+    links: &Links,
+    strange: Option<ParentField>,
+    row: &Entity,
+) -> Result<Faults, NoMemory>
+    requires { row.now ≡ row_over form.now.kind (view form.now.body) (base_of base.now) links.now }
+    ensures { IfOk result (λ faults. faults ≡ fold tell [] (faults_between form.now.kind (view form.now.body) (base_of base.now) links.now strange)) }
+{
+    let mut faults = Faults::new(alloc);
+    if is_renamed(form.kind(), form.body(), base) {
+        tell_if(alloc, &mut faults, true, "name", Rule::Fixed)?;
+    } else {
+        tell_id(alloc, &mut faults, form.body(), base)?;
+        tell_word(alloc, &mut faults, form.kind(), form.body(), base)?;
+        tell_strange(alloc, &mut faults, strange)?;
+        tell_row(alloc, &mut faults, form.body(), base, links, row)?;
+    }
+    Ok(faults)
+}
+
+// Does the body name another plugin than the old row has?
+fn is_renamed(kind: Kind, body: &Value, base: &Base<'_>) -> bool
+    ensures { result ≡ is_renamed kind (view body.now) (base_of base.now) }
+{
+    match kind {
+        Kind::Plugin => match named_plugin(body) {
+            Some(name) => match old_plugin(base) {
+                Some(old) => name.priority() != old.priority(),
+                None => false,
+            },
+            None => false,
+        },
+        Kind::Service => false,
+        Kind::Route => false,
+        Kind::Consumer => false,
+        Kind::KeyCred => false,
+        Kind::BasicCred => false,
+        Kind::Acl => false,
+    }
+}
+
+// Tells an id that is another than the row's.
+fn tell_id(alloc: Global, faults: &mut Faults, body: &Value, base: &Base<'_>) -> Result<(), NoMemory>
+    ensures { OnOk result (faults.new ≡ fold tell faults.old (id_faults (view body.now) (base_of base.now))) }
+{
+    let other = match id_at(body) {
+        Some(id) => match base.fixed_id() {
+            Some(fixed) => id != fixed,
+            None => false,
+        },
+        None => false,
+    };
+    tell_if(alloc, faults, other, "id", Rule::Fixed)
+}
+
+// Tells a word that is another than the one by which the row is made.
+fn tell_word(
+    alloc: Global,
+    faults: &mut Faults,
+    kind: Kind,
+    body: &Value,
+    base: &Base<'_>,
+) -> Result<(), NoMemory>
+    ensures { OnOk result (faults.new ≡ fold tell faults.old (word_faults kind (view body.now) (base_of base.now))) }
+{
+    match word_field(kind) {
+        Some((field, spelled)) => {
+            let other = names_other(alloc, spelled, field, body, base)?;
+            tell_if(alloc, faults, other, field, Rule::Fixed)
+        }
+        None => Ok(()),
+    }
+}
+
+fn names_other(
+    alloc: Global,
+    spelled: Word,
+    field: &str,
+    body: &Value,
+    base: &Base<'_>,
+) -> Result<bool, NoMemory>
+    ensures { IfOk result (λ other. other ≡ differ bytes_eq (text_at spelled field.now (view body.now)) (given_word (base_of base.now))) }
+{
+    match text_at(alloc, spelled, field, body)? {
+        Some(text) => match base.given_word() {
+            Some(word) => Ok(text.as_str() != word.as_str()),
+            None => Ok(false),
+        },
+        None => Ok(false),
+    }
+}
+
+// The field that a word stands for, and how it is spelled: a plugin has none.
+fn word_field(kind: Kind) -> Option<(&'static str, Word)>
+    ensures { option_map (λ field. (field.0.now, field.1)) result ≡ word_field kind }
+{
+    match kind {
+        Kind::Service => Some(("name", Word::Name)),
+        Kind::Route => Some(("name", Word::Name)),
+        Kind::Consumer => Some(("username", Word::Username)),
+        Kind::KeyCred => Some(("key", Word::FreeText)),
+        Kind::BasicCred => Some(("username", Word::FreeText)),
+        Kind::Acl => Some(("group", Word::FreeText)),
+        Kind::Plugin => None,
+    }
+}
+
+fn tell_strange(alloc: Global, faults: &mut Faults, strange: Option<ParentField>) -> Result<(), NoMemory>
+    ensures { OnOk result (faults.new ≡ fold tell faults.old (strange_faults strange)) }
+{
+    match strange {
+        Some(field) => tell_if(alloc, faults, true, parent_text(field), Rule::Fixed),
+        None => Ok(()),
+    }
+}
+
+fn parent_text(field: ParentField) -> &'static str
+    ensures { result.now ≡ parent_text field }
+{
+    match field {
+        ParentField::Service => "service",
+        ParentField::Route => "route",
+        ParentField::Consumer => "consumer",
+    }
+}
+
+// Tells the rules between the fields of the finished row.
+fn tell_row(
+    alloc: Global,
+    faults: &mut Faults,
+    body: &Value,
+    base: &Base<'_>,
+    links: &Links,
+    row: &Entity,
+) -> Result<(), NoMemory>
+    ensures { OnOk result (faults.new ≡ fold tell faults.old (row_faults (view body.now) (base_of base.now) links.now row.now)) }
+{
+    match row {
+        Entity::Service(row) => tell_service(alloc, faults, body, row),
+        Entity::Route(row) => tell_route(alloc, faults, base, links, row),
+        Entity::Consumer(row) => tell_consumer(alloc, faults, row),
+        Entity::KeyCred(row) => tell_key(alloc, faults, base, links, row),
+        Entity::BasicCred(row) => tell_basic(alloc, faults, base, links, row),
+        Entity::Acl(row) => tell_acl(alloc, faults, base, links, row),
+        Entity::Plugin(row) => tell_plugin(alloc, faults, body, base, row),
+    }
+}
+
+#[cfg(test)]
+mod tests;

@@ -1,0 +1,213 @@
+//! The plugins that bodies make.
+
+ghost use Rattle.std.specs.Prelude.{◌≡◌, IfOk, OnOk, codes, fold};
+ghost use Rattle.serde_json.specs.View.{view};
+ghost use Rattle.kg_entities.specs.ValidRows.{is_for_no_consumer};
+ghost use Rattle.kg_schema.specs.Bases.{base_of};
+ghost use Rattle.kg_schema.specs.Between.{config_faults, groups_faults, has_both, has_neither, ip_restriction_faults, known_plugin_faults, late_faults, old_plugin, plugin_faults, rate_limiting_faults, termination_faults, waiting_faults};
+ghost use Rattle.kg_schema.specs.Finished.{plugin_before, plugin_over, scope_over};
+ghost use Rattle.kg_schema.specs.Rules.{tell};
+ghost use Rattle.kg_schema.specs.Settings.{inside};
+
+use crate::base::{Base, Links, Stamps};
+use crate::fault::Faults;
+use crate::fields::{judge_members, named_plugin};
+use crate::row::config::config_over;
+use crate::row::defaults::default_config;
+use crate::row::member::member_or;
+use crate::row::set::{set, set_option};
+use crate::row::tell::tell_if;
+use crate::rule::Rule;
+use crate::settings::flag_at;
+use crate::table::Table;
+use kg_entities::{Acl, Config, IpRestriction, PluginName, PluginRow, RateLimiting, Scope, Termination};
+use kg_text::{List, NoMemory, Text, TryClone};
+use serde_json::Value;
+use std::alloc::Global;
+
+/// The old plugin, or a new one with the config that its name has by default.
+pub fn plugin_before(alloc: Global, base: &Base<'_>, stamps: Stamps, body: &Value) -> Result<PluginRow, NoMemory>
+    ensures { IfOk result (λ row. row ≡ plugin_before (base_of base.now) stamps (view body.now)) }
+{
+    match base.plugin() {
+        Some(old) => old.try_clone(alloc),
+        None => Ok(PluginRow {
+            id: stamps.id,
+            scope: Scope {
+                service: None,
+                route: None,
+                consumer: None,
+            },
+            enabled: true,
+            config: default_config(alloc, named_plugin(body).unwrap_or(PluginName::Cors))?,
+            created_at: stamps.created_at,
+        }),
+    }
+}
+
+/// The plugin with what the body sets, and with the rows that it names.
+pub fn plugin_over(alloc: Global, body: &Value, links: &Links, before: PluginRow) -> Result<PluginRow, NoMemory>
+    ensures { IfOk result (λ row. row ≡ plugin_over (view body.now) links.now before) }
+{
+    let null = Value::Null;
+    let PluginRow { id, scope, mut enabled, config, created_at } = before;
+    set(&mut enabled, flag_at("enabled", body));
+    Ok(PluginRow {
+        id,
+        scope: scope_over(links, scope),
+        enabled,
+        config: config_over(alloc, member_or("config", body, &null), config)?,
+        created_at,
+    })
+}
+
+fn scope_over(links: &Links, before: Scope) -> Scope
+    ensures { result ≡ scope_over links.now before }
+{
+    Scope {
+        service: links.service.or(before.service),
+        route: links.route.or(before.route),
+        consumer: links.consumer.or(before.consumer),
+    }
+}
+
+/// The plugin of the old row.
+pub fn old_plugin(base: &Base<'_>) -> Option<PluginName>
+    ensures { result ≡ old_plugin (base_of base.now) }
+{
+    match base.plugin() {
+        Some(old) => Some(old.config.name()),
+        None => None,
+    }
+}
+
+/// Tells the rules between the fields of a plugin, and those of a config whose fields had to wait for
+/// the old row's name.
+pub fn tell_plugin(
+    alloc: Global,
+    faults: &mut Faults,
+    body: &Value,
+    base: &Base<'_>,
+    plugin: &PluginRow,
+) -> Result<(), NoMemory>
+    ensures { OnOk result (faults.new ≡ fold tell faults.old (plugin_faults (view body.now) (base_of base.now) plugin.now)) }
+{
+    tell_waiting(alloc, faults, body, base)?;
+    if named_plugin(body).is_none() && old_plugin(base).is_none() {
+        tell_if(alloc, faults, true, "name", Rule::Required)
+    } else {
+        tell_known(alloc, faults, plugin)
+    }
+}
+
+fn tell_waiting(alloc: Global, faults: &mut Faults, body: &Value, base: &Base<'_>) -> Result<(), NoMemory>
+    ensures { OnOk result (faults.new ≡ fold tell faults.old (waiting_faults (view body.now) (base_of base.now))) }
+{
+    match named_plugin(body) {
+        Some(_) => Ok(()),
+        None => match old_plugin(base) {
+            Some(name) => tell_late(alloc, faults, body, name),
+            None => Ok(()),
+        },
+    }
+}
+
+fn tell_late(alloc: Global, faults: &mut Faults, body: &Value, name: PluginName) -> Result<(), NoMemory>
+    ensures { OnOk result (faults.new ≡ fold tell faults.old (late_faults (inside (codes "config") (view body.now)) name)) }
+{
+    let null = Value::Null;
+    match member_or("config", body, &null).as_object() {
+        Some(members) => judge_members(alloc, members, Table::Config(name), "config.", faults),
+        None => Ok(()),
+    }
+}
+
+fn tell_known(alloc: Global, faults: &mut Faults, plugin: &PluginRow) -> Result<(), NoMemory>
+    ensures { OnOk result (faults.new ≡ fold tell faults.old (known_plugin_faults plugin.now)) }
+{
+    let barred = is_for_no_consumer(&plugin.config) && plugin.scope.consumer.is_some();
+    tell_if(alloc, faults, barred, "consumer", Rule::Fixed)?;
+    tell_config(alloc, faults, &plugin.config)
+}
+
+// Does the plugin run before a consumer is known, or make one known?
+fn is_for_no_consumer(config: &Config) -> bool
+    ensures { result ≡ is_for_no_consumer config.now }
+{
+    match config {
+        Config::Cors(_) => true,
+        Config::KeyAuth(_) => true,
+        Config::BasicAuth(_) => true,
+        Config::IpRestriction(_) => false,
+        Config::RequestSizeLimiting(_) => false,
+        Config::Acl(_) => true,
+        Config::RateLimiting(_) => false,
+        Config::RequestTransformer(_) => false,
+        Config::ResponseTransformer(_) => false,
+        Config::RequestTermination(_) => false,
+    }
+}
+
+fn tell_config(alloc: Global, faults: &mut Faults, config: &Config) -> Result<(), NoMemory>
+    ensures { OnOk result (faults.new ≡ fold tell faults.old (config_faults config.now)) }
+{
+    match config {
+        Config::Acl(config) => tell_groups(alloc, faults, config),
+        Config::IpRestriction(config) => tell_ip_restriction(alloc, faults, config),
+        Config::RateLimiting(config) => tell_rate_limiting(alloc, faults, config),
+        Config::RequestTermination(config) => tell_termination(alloc, faults, config),
+        Config::Cors(_) => Ok(()),
+        Config::KeyAuth(_) => Ok(()),
+        Config::BasicAuth(_) => Ok(()),
+        Config::RequestSizeLimiting(_) => Ok(()),
+        Config::RequestTransformer(_) => Ok(()),
+        Config::ResponseTransformer(_) => Ok(()),
+    }
+}
+
+fn has_both(a: &List<Text>, b: &List<Text>) -> bool
+    ensures { result ≡ has_both a.now b.now }
+{
+    !a.as_slice().is_empty() && !b.as_slice().is_empty()
+}
+
+fn has_neither(a: &List<Text>, b: &List<Text>) -> bool
+    ensures { result ≡ has_neither a.now b.now }
+{
+    a.as_slice().is_empty() && b.as_slice().is_empty()
+}
+
+fn tell_groups(alloc: Global, faults: &mut Faults, config: &Acl) -> Result<(), NoMemory>
+    ensures { OnOk result (faults.new ≡ fold tell faults.old (groups_faults config.now)) }
+{
+    let both = has_both(&config.allow, &config.deny);
+    tell_if(alloc, faults, both, "config.allow", Rule::Exclusive)?;
+    let neither = has_neither(&config.allow, &config.deny);
+    tell_if(alloc, faults, neither, "config.allow", Rule::Required)
+}
+
+fn tell_ip_restriction(alloc: Global, faults: &mut Faults, config: &IpRestriction) -> Result<(), NoMemory>
+    ensures { OnOk result (faults.new ≡ fold tell faults.old (ip_restriction_faults config.now)) }
+{
+    let neither = has_neither(&config.allow, &config.deny);
+    tell_if(alloc, faults, neither, "config.allow", Rule::Required)
+}
+
+fn tell_rate_limiting(alloc: Global, faults: &mut Faults, config: &RateLimiting) -> Result<(), NoMemory>
+    ensures { OnOk result (faults.new ≡ fold tell faults.old (rate_limiting_faults config.now)) }
+{
+    let unlimited = config.second.is_none()
+        && config.minute.is_none()
+        && config.hour.is_none()
+        && config.day.is_none();
+    tell_if(alloc, faults, unlimited, "config.minute", Rule::Required)
+}
+
+fn tell_termination(alloc: Global, faults: &mut Faults, config: &Termination) -> Result<(), NoMemory>
+    ensures { OnOk result (faults.new ≡ fold tell faults.old (termination_faults config.now)) }
+{
+    let both = config.message.is_some() && config.body.is_some();
+    tell_if(alloc, faults, both, "config.message", Rule::Exclusive)?;
+    let bare = config.content_type.is_some() && config.body.is_none();
+    tell_if(alloc, faults, bare, "config.body", Rule::Required)
+}

@@ -1,0 +1,97 @@
+//! The routes that bodies make.
+
+ghost use Rattle.std.specs.Prelude.{◌≡◌, IfOk, OnOk, fold};
+ghost use Rattle.serde_json.specs.View.{view};
+ghost use Rattle.kg_schema.specs.Bases.{base_of};
+ghost use Rattle.kg_schema.specs.Between.{fits_nothing, route_faults};
+ghost use Rattle.kg_schema.specs.Finished.{route_before, route_over};
+ghost use Rattle.kg_schema.specs.Rules.{tell};
+
+use crate::base::{Base, Links, Stamps};
+use crate::fault::Faults;
+use crate::header_tests::tests_at;
+use crate::row::set::{narrow_signed, set, set_list, set_option};
+use crate::row::tell::{is_missing, tell_if};
+use crate::rule::Rule;
+use crate::settings::{flag_at, https_at, integer_at, text_at, texts_at};
+use crate::word::Word;
+use kg_entities::Route;
+use kg_text::{List, NoMemory, TryClone};
+use serde_json::Value;
+use std::alloc::Global;
+
+/// The old route, changed now; or a new one with the defaults.
+pub fn route_before(alloc: Global, base: &Base<'_>, stamps: Stamps) -> Result<Route, NoMemory>
+    ensures { IfOk result (λ row. row ≡ route_before (base_of base.now) stamps) }
+{
+    match base.route() {
+        Some(old) => {
+            let mut row = old.try_clone(alloc)?;
+            row.updated_at = stamps.updated_at;
+            Ok(row)
+        }
+        None => Ok(Route {
+            id: stamps.id,
+            name: base.given_text(alloc)?,
+            service: stamps.id,
+            https: true,
+            methods: List::new(alloc),
+            hosts: List::new(alloc),
+            paths: List::new(alloc),
+            headers: List::new(alloc),
+            regex_priority: 0,
+            strip_path: true,
+            preserve_host: false,
+            created_at: stamps.created_at,
+            updated_at: stamps.updated_at,
+        }),
+    }
+}
+
+/// The route with what the body sets, and with the service that it names.
+pub fn route_over(
+    alloc: Global,
+    body: &Value,
+    links: &Links,
+    before: Route,
+) -> Result<Route, NoMemory>
+    ensures { IfOk result (λ row. row ≡ route_over (view body.now) links.now before) }
+{
+    let mut row = before;
+    set_option(&mut row.name, text_at(alloc, Word::Name, "name", body)?);
+    set(&mut row.service, links.service);
+    set(&mut row.https, https_at(alloc, body)?);
+    set_list(&mut row.methods, texts_at(alloc, Word::Method, "methods", body)?);
+    set_list(&mut row.hosts, texts_at(alloc, Word::RouteHost, "hosts", body)?);
+    set_list(&mut row.paths, texts_at(alloc, Word::RoutePath, "paths", body)?);
+    set_list(&mut row.headers, tests_at(alloc, body)?);
+    set(&mut row.regex_priority, narrow_signed(integer_at(alloc, -1000000, 1000000, "regex_priority", body)?));
+    set(&mut row.strip_path, flag_at("strip_path", body));
+    set(&mut row.preserve_host, flag_at("preserve_host", body));
+    Ok(row)
+}
+
+/// Tells the rules between the fields of a route.
+pub fn tell_route(
+    alloc: Global,
+    faults: &mut Faults,
+    base: &Base<'_>,
+    links: &Links,
+    route: &Route,
+) -> Result<(), NoMemory>
+    ensures { OnOk result (faults.new ≡ fold tell faults.old (route_faults (base_of base.now) links.now route.now)) }
+{
+    let missing = is_missing(links.service, base.route());
+    tell_if(alloc, faults, missing, "service", Rule::Required)?;
+    tell_if(alloc, faults, fits_nothing(route), "paths", Rule::Required)
+}
+
+// Is nothing set that a request can fit?
+fn fits_nothing(route: &Route) -> bool
+    ensures { result ≡ fits_nothing route.now }
+{
+    route.methods.as_slice().is_empty()
+        && route.hosts.as_slice().is_empty()
+        && route.headers.as_slice().is_empty()
+        && route.paths.as_slice().is_empty()
+}

@@ -1,0 +1,101 @@
+//! The services that bodies make.
+
+ghost use Rattle.std.specs.Prelude.{◌≡◌, IfOk, OnOk, fold};
+ghost use Rattle.serde_json.specs.View.{view};
+ghost use Rattle.kg_schema.specs.Bases.{base_of};
+ghost use Rattle.kg_schema.specs.Between.{doubles_url, service_faults};
+ghost use Rattle.kg_schema.specs.Finished.{address_over, service_before, service_over};
+ghost use Rattle.kg_schema.specs.Rules.{tell};
+ghost use Rattle.kg_schema.specs.Settings.{url_at};
+
+use crate::base::{Base, Stamps};
+use crate::fault::Faults;
+use crate::row::member::is_set_at;
+use crate::row::set::{narrow, set, set_option};
+use crate::row::tell::tell_if;
+use crate::rule::Rule;
+use crate::settings::{flag_at, text_at, url_at, whole_at};
+use crate::word::Word;
+use kg_entities::Service;
+use kg_text::{NoMemory, Text, TryClone};
+use serde_json::Value;
+use std::alloc::Global;
+
+/// The old service, changed now; or a new one with the defaults.
+pub fn service_before(alloc: Global, base: &Base<'_>, stamps: Stamps) -> Result<Service, NoMemory>
+    ensures { IfOk result (λ row. row ≡ service_before (base_of base.now) stamps) }
+{
+    match base.service() {
+        Some(old) => {
+            let mut row = old.try_clone(alloc)?;
+            row.updated_at = stamps.updated_at;
+            Ok(row)
+        }
+        None => Ok(Service {
+            id: stamps.id,
+            name: base.given_text(alloc)?,
+            host: Text::new(alloc),
+            port: 80,
+            path: None,
+            retries: 5,
+            enabled: true,
+            created_at: stamps.created_at,
+            updated_at: stamps.updated_at,
+        }),
+    }
+}
+
+/// The service with what the body sets.
+pub fn service_over(alloc: Global, body: &Value, before: Service) -> Result<Service, NoMemory>
+    ensures { IfOk result (λ row. row ≡ service_over (view body.now) before) }
+{
+    let mut row = address_over(alloc, body, before)?;
+    set_option(&mut row.name, text_at(alloc, Word::Name, "name", body)?);
+    set(&mut row.retries, narrow(whole_at(alloc, 0, 32767, "retries", body)?));
+    set(&mut row.enabled, flag_at("enabled", body));
+    Ok(row)
+}
+
+// A url sets the host, the port and the path.
+fn address_over(alloc: Global, body: &Value, before: Service) -> Result<Service, NoMemory>
+    ensures { IfOk result (λ row. row ≡ address_over (url_at (view body.now)) (view body.now) before) }
+{
+    let mut row = before;
+    match url_at(alloc, body)? {
+        Some(url) => {
+            row.host = url.host;
+            row.port = url.port;
+            row.path = url.path;
+        }
+        None => {
+            set(&mut row.host, text_at(alloc, Word::Host, "host", body)?);
+            set(&mut row.port, narrow(whole_at(alloc, 1, 65535, "port", body)?));
+            set_option(&mut row.path, text_at(alloc, Word::Path, "path", body)?);
+        }
+    }
+    Ok(row)
+}
+
+/// Tells the rules between the fields of a service.
+pub fn tell_service(
+    alloc: Global,
+    faults: &mut Faults,
+    body: &Value,
+    service: &Service,
+) -> Result<(), NoMemory>
+    ensures { OnOk result (faults.new ≡ fold tell faults.old (service_faults (view body.now) service.now)) }
+{
+    tell_if(alloc, faults, doubles_url(body), "url", Rule::Exclusive)?;
+    tell_if(alloc, faults, service.host.as_bytes().is_empty(), "host", Rule::Required)
+}
+
+// Does a url stand beside a part of it?
+fn doubles_url(body: &Value) -> bool
+    ensures { result ≡ doubles_url (view body.now) }
+{
+    is_set_at("url", body)
+        && (is_set_at("protocol", body)
+            || is_set_at("host", body)
+            || is_set_at("port", body)
+            || is_set_at("path", body))
+}

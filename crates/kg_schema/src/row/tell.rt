@@ -1,0 +1,38 @@
+//! Telling broken rules.
+
+ghost use Rattle.std.specs.Prelude.{◌≡◌, OnOk, fold};
+ghost use Rattle.std.specs.Option.{option_copied};
+ghost use Rattle.kg_schema.specs.Between.{fault_if, is_missing};
+ghost use Rattle.kg_schema.specs.Rules.{tell};
+
+use crate::fault::Faults;
+use crate::rule::Rule;
+use kg_entities::Id;
+use kg_text::{NoMemory, Text};
+use std::alloc::Global;
+
+/// Tells the rule at this field, if it is broken.
+pub fn tell_if(
+    alloc: Global,
+    faults: &mut Faults,
+    broken: bool,
+    field: &str,
+    rule: Rule,
+) -> Result<(), NoMemory>
+    ensures { OnOk result (faults.new ≡ fold tell faults.old (fault_if broken field.now rule)) }
+{
+    if broken {
+        faults.tell(Text::from_str(alloc, field)?, rule)?;
+    }
+    Ok(())
+}
+
+/// Does neither the caller nor the old row name the row that is needed?
+pub fn is_missing<R>(link: Option<Id>, old: Option<&R>) -> bool
+    ensures { result ≡ is_missing link (option_copied old.entry) }
+{
+    match old {
+        Some(_) => false,
+        None => link.is_none(),
+    }
+}
