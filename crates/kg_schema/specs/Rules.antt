@@ -1,6 +1,6 @@
 -- Broken rules of a body: their words, which of two counts, and the list that is told. The words and
 -- their order are this project's own.
-use Rattle.std.specs.Prelude.{◌≡◌, ◌≢◌, ℕ, List, [], ◌∷◌, map, fold, Option, Some, None, unwrap_or, codes, nat_le, if◌then◌else◌, ⊤}
+use Rattle.std.specs.Prelude.{◌≡◌, ◌≢◌, ℕ, List, [], map, fold, Option, Some, None, unwrap_or, codes, nat_le, if◌then◌else◌, ⊤}
 use Rattle.std.specs.BTreeMap.{insert_entry, is_at}
 use Rattle.std.specs.Cmp.Lexicographic.{slice_cmp}
 use Rattle.std.specs.Map.{lookup}

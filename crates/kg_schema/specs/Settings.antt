@@ -1,5 +1,5 @@
 -- What a body sets, field by field. A value that breaks a rule of its field sets nothing.
-use Rattle.std.specs.Prelude.{ℕ, ℤ, Bool, ◌&&◌, false, List, [], ◌∷◌, map, fold, codes, if◌then◌else◌, Option, Some, None, is_none, is_some, unwrap_or, option_map, option_and_then}
+use Rattle.std.specs.Prelude.{ℕ, ℤ, Bool, ◌&&◌, List, [], map, codes, if◌then◌else◌, Option, Some, None, is_none, is_some, unwrap_or, option_map, option_and_then}
 use Rattle.std.specs.BTreeMap.{insert_entry}
 use Rattle.std.specs.Cmp.Lexicographic.{slice_cmp}
 use Rattle.std.specs.List.{list_any}
@@ -24,7 +24,6 @@ use Rattle.kg_schema.specs.declared.shape.Shape.{Shape}
 use Rattle.kg_schema.specs.declared.shape.Shape.TheVariants as shape
 use Rattle.kg_schema.specs.declared.url.Url.{Url}
 use Rattle.kg_schema.specs.declared.word.Word.{Word}
-use Rattle.kg_schema.specs.declared.word.Word.TheVariants as word
 
 -- the value of the member of this name, if it is set and breaks no rule of the shape
 abbrev pub value_at : Shape → List ℕ → Data → Option Data

@@ -1,6 +1,6 @@
 -- The url of a service: `http://`, a host, optionally a port and a path (RFC 3986, section 3; which
 -- urls are taken is this project's own).
-use Rattle.std.specs.Prelude.{◌==◌, ℕ, Bool, ◌&&◌, List, [], ◌∷◌, length, drop, nat_lt, nat_le, nat_eq, slice_index, Option, Some, None, option_map, option_and_then, codes, if◌then◌else◌}
+use Rattle.std.specs.Prelude.{◌==◌, ℕ, Bool, ◌&&◌, List, length, drop, nat_lt, nat_le, nat_eq, slice_index, Option, Some, None, option_map, option_and_then, codes, if◌then◌else◌}
 use Rattle.std.specs.List.{list_all, starts_with, before_first, position_or_len}
 use Rattle.std.specs.Char.{is_ascii_digit}
 use Rattle.std.specs.Str.Parse.{digits_value}

@@ -40,7 +40,10 @@ fn in_order(alloc: Global, tests: BTreeMap<Text, HeaderTest>) -> Result<List<Hea
     Ok(list)
 }
 
-fn tests_in(alloc: Global, members: &Map<String, Value>) -> Result<BTreeMap<Text, HeaderTest>, NoMemory>
+fn tests_in(
+    alloc: Global,
+    members: &Map<String, Value>,
+) -> Result<BTreeMap<Text, HeaderTest>, NoMemory>
     ensures { IfOk result (λ tests. tests.entries ≡ tests_in [] (members_view members.now.entries)) }
 {
     let mut tests = BTreeMap::new(alloc);

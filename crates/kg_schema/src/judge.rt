@@ -156,7 +156,9 @@ fn protocols_rule(alloc: Global, texts: &List<Text>) -> Result<Option<Rule>, NoM
 fn are_protocols(texts: &[Text]) -> bool
     ensures { result ≡ list_all (is_choice Choice.Protocol) texts.now }
 {
-    texts.iter().all(|text| is_choice(Choice::Protocol, text.as_str()))
+    texts
+        .iter()
+        .all(|text| is_choice(Choice::Protocol, text.as_str()))
 }
 
 /// Does the text stand among these?

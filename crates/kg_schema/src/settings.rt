@@ -39,7 +39,12 @@ pub fn value_at<'v>(
 }
 
 /// A text, as it is kept.
-pub fn text_at(alloc: Global, word: Word, name: &str, body: &Value) -> Result<Option<Text>, NoMemory>
+pub fn text_at(
+    alloc: Global,
+    word: Word,
+    name: &str,
+    body: &Value,
+) -> Result<Option<Text>, NoMemory>
     ensures { IfOk result (λ found. found ≡ text_at word name.now (view body.now)) }
 {
     match value_at(alloc, Shape::Text(word), name, body)?.and_then(Value::as_str) {
@@ -62,7 +67,13 @@ pub fn texts_at(alloc: Global, word: Word, name: &str, body: &Value) -> Result<L
 }
 
 /// A whole number from low to high.
-pub fn whole_at(alloc: Global, low: u64, high: u64, name: &str, body: &Value) -> Result<Option<u64>, NoMemory>
+pub fn whole_at(
+    alloc: Global,
+    low: u64,
+    high: u64,
+    name: &str,
+    body: &Value,
+) -> Result<Option<u64>, NoMemory>
     ensures value { IfOk result (λ found. found ≡ whole_at low high name.now (view body.now)) }
     ensures within { IfOk result (λ found. IfSome found (λ n. (low ≤ n) × (n ≤ high))) }
 {
@@ -70,7 +81,13 @@ pub fn whole_at(alloc: Global, low: u64, high: u64, name: &str, body: &Value) ->
 }
 
 /// An integer from low to high.
-pub fn integer_at(alloc: Global, low: i64, high: i64, name: &str, body: &Value) -> Result<Option<i64>, NoMemory>
+pub fn integer_at(
+    alloc: Global,
+    low: i64,
+    high: i64,
+    name: &str,
+    body: &Value,
+) -> Result<Option<i64>, NoMemory>
     ensures value { IfOk result (λ found. found ≡ integer_at low high name.now (view body.now)) }
     ensures within { IfOk result (λ found. IfSome found (λ n. (low ≤ℤ n) × (n ≤ℤ high))) }
 {
@@ -94,7 +111,12 @@ pub fn id_at(body: &Value) -> Option<Id>
 }
 
 /// A row of another kind.
-pub fn reference_at(alloc: Global, how: Mention, name: &str, body: &Value) -> Result<Option<Reference>, NoMemory>
+pub fn reference_at(
+    alloc: Global,
+    how: Mention,
+    name: &str,
+    body: &Value,
+) -> Result<Option<Reference>, NoMemory>
     ensures { IfOk result (λ found. found ≡ reference_at how name.now (view body.now)) }
 {
     match body.get(name) {

@@ -97,13 +97,25 @@ fn service_field(name: &str) -> Field
         "name" => Field::Judged(Shape::Text(Word::Name)),
         "protocol" => Field::Fixed(Constant::Phrase(Phrase::Http)),
         "host" => Field::Judged(Shape::Text(Word::Host)),
-        "port" => Field::Judged(Shape::Whole { low: 1, high: 65_535 }),
+        "port" => Field::Judged(Shape::Whole {
+            low: 1,
+            high: 65_535,
+        }),
         "path" => Field::Judged(Shape::Text(Word::Path)),
-        "retries" => Field::Judged(Shape::Whole { low: 0, high: 32_767 }),
+        "retries" => Field::Judged(Shape::Whole {
+            low: 0,
+            high: 32_767,
+        }),
         "enabled" => Field::Judged(Shape::Flag),
         "url" => Field::Judged(Shape::Text(Word::Url)),
-        "connect_timeout" | "read_timeout" | "write_timeout" | "tags" | "ca_certificates"
-        | "client_certificate" | "tls_verify" | "tls_verify_depth" => Field::Dropped,
+        "connect_timeout"
+        | "read_timeout"
+        | "write_timeout"
+        | "tags"
+        | "ca_certificates"
+        | "client_certificate"
+        | "tls_verify"
+        | "tls_verify_depth" => Field::Dropped,
         "id" => Field::Judged(Shape::Text(Word::Id)),
         "created_at" | "updated_at" => Field::Dropped,
         _ => Field::Unknown,

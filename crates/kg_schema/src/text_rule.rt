@@ -16,14 +16,13 @@ use crate::text_rule::forms::{
     has_host_form, has_method_form, has_name_form, has_no_controls, has_route_host_form,
     has_username_form,
 };
+pub use crate::text_rule::forms::{is_host, is_normal_path, is_token};
 use crate::text_rule::pattern::has_route_path_form;
 use crate::url::is_url;
 use crate::word::{Choice, Word};
 use kg_entities::Id;
 use kg_text::NoMemory;
 use std::alloc::Global;
-
-pub use crate::text_rule::forms::{is_host, is_normal_path, is_token};
 
 /// The first rule that a text of a kind breaks.
 pub fn text_rule(alloc: Global, word: Word, text: &str) -> Result<Option<Rule>, NoMemory>

@@ -100,7 +100,11 @@ fn port_part(text: &[u8]) -> Option<u16>
 fn port_number(digits: &[u8]) -> Option<u16>
     ensures { result ≡ port_number digits.now }
 {
-    if is_numeral(digits) { number_of(digits) } else { None }
+    if is_numeral(digits) {
+        number_of(digits)
+    } else {
+        None
+    }
 }
 
 // Decimal digits, the first of which isn't 0.
@@ -121,5 +125,9 @@ fn path_part(path: &[u8]) -> Option<Option<&[u8]>>
     if path.is_empty() {
         return Some(None);
     }
-    if is_normal_path(path) { Some(Some(path)) } else { None }
+    if is_normal_path(path) {
+        Some(Some(path))
+    } else {
+        None
+    }
 }

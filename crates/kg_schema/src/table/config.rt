@@ -163,7 +163,10 @@ fn termination_field(name: &str) -> Field
     ensures depth { depth_of result ≡ 0 }
 {
     match name {
-        "status_code" => Field::Judged(Shape::Whole { low: 200, high: 599 }),
+        "status_code" => Field::Judged(Shape::Whole {
+            low: 200,
+            high: 599,
+        }),
         "message" | "content_type" => Field::Judged(Shape::Text(Word::FreeText)),
         "body" => Field::Judged(Shape::Text(Word::LongText)),
         "trigger" => Field::Fixed(Constant::Nothing),

@@ -13,10 +13,16 @@ fn a_service_breaks_the_rules_of_each_field(rt: HostRuntime) -> Result<(), Fail>
         (r#"{"name":5}"#, "name: type"),
         (r#"{"name":""}"#, "name: empty"),
         (r#"{"name":"a b"}"#, "name: syntax"),
-        (r#"{"name":"00000000-0000-4000-8000-000000000003"}"#, "name: syntax"),
+        (
+            r#"{"name":"00000000-0000-4000-8000-000000000003"}"#,
+            "name: syntax",
+        ),
         (r#"{"host":"a/b"}"#, "host: syntax"),
         (r#"{"port":65535,"retries":32767}"#, ""),
-        (r#"{"port":65536,"retries":32768}"#, "port: out of range, retries: out of range"),
+        (
+            r#"{"port":65536,"retries":32768}"#,
+            "port: out of range, retries: out of range",
+        ),
         (r#"{"port":80.0}"#, "port: type"),
         (r#"{"port":-1}"#, "port: out of range"),
         (r#"{"port":{}}"#, "port: type"),
@@ -28,7 +34,11 @@ fn a_service_breaks_the_rules_of_each_field(rt: HostRuntime) -> Result<(), Fail>
         (r#"{"protocol":"https"}"#, "protocol: fixed"),
         (r#"{"protocol":5}"#, "protocol: fixed"),
     ] {
-        assert_eq!(rt; told(rt.alloc(), Kind::Service, body)?.as_str(), wanted, "{body}");
+        assert_eq!(rt;
+            told(rt.alloc(), Kind::Service, body)?.as_str(),
+            wanted,
+            "{body}"
+        );
     }
     Ok(())
 }
@@ -37,11 +47,18 @@ fn a_service_breaks_the_rules_of_each_field(rt: HostRuntime) -> Result<(), Fail>
 fn what_isnt_set_breaks_no_rule_but_unknown(rt: HostRuntime) -> Result<(), Fail> {
     for (body, wanted) in [
         (r#"{"name":null,"port":[],"protocol":null,"id":null}"#, ""),
-        (r#"{"created_at":"x","updated_at":{},"tags":7,"tls_verify":"?"}"#, ""),
+        (
+            r#"{"created_at":"x","updated_at":{},"tags":7,"tls_verify":"?"}"#,
+            "",
+        ),
         (r#"{"created":null}"#, "created: unknown"),
         (r#"{"":[]}"#, ": unknown"),
     ] {
-        assert_eq!(rt; told(rt.alloc(), Kind::Service, body)?.as_str(), wanted, "{body}");
+        assert_eq!(rt;
+            told(rt.alloc(), Kind::Service, body)?.as_str(),
+            wanted,
+            "{body}"
+        );
     }
     Ok(())
 }
@@ -64,7 +81,11 @@ fn ids_and_urls_are_read_as_texts(rt: HostRuntime) -> Result<(), Fail> {
         (r#"{"url":"https://h"}"#, "url: syntax"),
         (r#"{"url":7}"#, "url: type"),
     ] {
-        assert_eq!(rt; told(rt.alloc(), Kind::Service, body)?.as_str(), wanted, "{body}");
+        assert_eq!(rt;
+            told(rt.alloc(), Kind::Service, body)?.as_str(),
+            wanted,
+            "{body}"
+        );
     }
     Ok(())
 }
@@ -72,7 +93,10 @@ fn ids_and_urls_are_read_as_texts(rt: HostRuntime) -> Result<(), Fail> {
 #[test]
 fn a_route_breaks_the_rules_of_its_lists(rt: HostRuntime) -> Result<(), Fail> {
     for (body, wanted) in [
-        (r#"{"methods":["GET","HEAD"],"hosts":["*.a","a.*","*","a"]}"#, ""),
+        (
+            r#"{"methods":["GET","HEAD"],"hosts":["*.a","a.*","*","a"]}"#,
+            "",
+        ),
         (r#"{"methods":"GET"}"#, "methods: type"),
         (r#"{"methods":["GET",1]}"#, "methods: type"),
         (r#"{"methods":["",1]}"#, "methods: type"),
@@ -89,7 +113,11 @@ fn a_route_breaks_the_rules_of_its_lists(rt: HostRuntime) -> Result<(), Fail> {
         (r#"{"protocols":["http","http"]}"#, "protocols: repeated"),
         (r#"{"protocols":"http"}"#, "protocols: type"),
     ] {
-        assert_eq!(rt; told(rt.alloc(), Kind::Route, body)?.as_str(), wanted, "{body}");
+        assert_eq!(rt;
+            told(rt.alloc(), Kind::Route, body)?.as_str(),
+            wanted,
+            "{body}"
+        );
     }
     Ok(())
 }
@@ -113,7 +141,11 @@ fn a_route_breaks_the_rules_of_paths_and_headers(rt: HostRuntime) -> Result<(), 
         (r#"{"headers":{"X":["1"],"x":["2"]}}"#, "headers: repeated"),
         (r#"{"headers":{"X":["1"],"x":[""]}}"#, "headers: empty"),
     ] {
-        assert_eq!(rt; told(rt.alloc(), Kind::Route, body)?.as_str(), wanted, "{body}");
+        assert_eq!(rt;
+            told(rt.alloc(), Kind::Route, body)?.as_str(),
+            wanted,
+            "{body}"
+        );
     }
     Ok(())
 }
@@ -122,15 +154,33 @@ fn a_route_breaks_the_rules_of_paths_and_headers(rt: HostRuntime) -> Result<(), 
 fn a_route_breaks_the_rules_of_its_other_fields(rt: HostRuntime) -> Result<(), Fail> {
     for (body, wanted) in [
         (r#"{"regex_priority":-1000000}"#, ""),
-        (r#"{"regex_priority":1000001}"#, "regex_priority: out of range"),
-        (r#"{"regex_priority":-1000001}"#, "regex_priority: out of range"),
-        (r#"{"regex_priority":18446744073709551615}"#, "regex_priority: out of range"),
+        (
+            r#"{"regex_priority":1000001}"#,
+            "regex_priority: out of range",
+        ),
+        (
+            r#"{"regex_priority":-1000001}"#,
+            "regex_priority: out of range",
+        ),
+        (
+            r#"{"regex_priority":18446744073709551615}"#,
+            "regex_priority: out of range",
+        ),
         (r#"{"regex_priority":1.0}"#, "regex_priority: type"),
-        (r#"{"strip_path":0,"preserve_host":1}"#, "preserve_host: type, strip_path: type"),
+        (
+            r#"{"strip_path":0,"preserve_host":1}"#,
+            "preserve_host: type, strip_path: type",
+        ),
         (r#"{"path_handling":"v0","snis":[]}"#, ""),
-        (r#"{"path_handling":"v1","snis":{}}"#, "path_handling: fixed, snis: fixed"),
+        (
+            r#"{"path_handling":"v1","snis":{}}"#,
+            "path_handling: fixed, snis: fixed",
+        ),
         (r#"{"service":"s"}"#, ""),
-        (r#"{"service":{"id":"00000000-0000-4000-8000-000000000003"}}"#, ""),
+        (
+            r#"{"service":{"id":"00000000-0000-4000-8000-000000000003"}}"#,
+            "",
+        ),
         (r#"{"service":{"name":"s"}}"#, ""),
         (r#"{"service":{"id":"s"}}"#, "service: syntax"),
         (r#"{"service":{"name":""}}"#, "service: empty"),
@@ -139,7 +189,11 @@ fn a_route_breaks_the_rules_of_its_other_fields(rt: HostRuntime) -> Result<(), F
         (r#"{"service":5}"#, "service: type"),
         (r#"{"service":"a b"}"#, "service: syntax"),
     ] {
-        assert_eq!(rt; told(rt.alloc(), Kind::Route, body)?.as_str(), wanted, "{body}");
+        assert_eq!(rt;
+            told(rt.alloc(), Kind::Route, body)?.as_str(),
+            wanted,
+            "{body}"
+        );
     }
     Ok(())
 }
@@ -155,20 +209,48 @@ fn a_pattern_that_is_too_large_is_want_of_memory(rt: HostRuntime) -> Result<(), 
 #[test]
 fn consumers_and_credentials_break_the_rules_of_texts(rt: HostRuntime) -> Result<(), Fail> {
     for (kind, body, wanted) in [
-        (Kind::Consumer, r#"{"username":"a b","custom_id":"1001"}"#, ""),
+        (
+            Kind::Consumer,
+            r#"{"username":"a b","custom_id":"1001"}"#,
+            "",
+        ),
         (
             Kind::Consumer,
             r#"{"username":"00000000-0000-4000-8000-000000000003"}"#,
             "username: syntax",
         ),
-        (Kind::Consumer, r#"{"custom_id":"a\u0085"}"#, "custom_id: syntax"),
-        (Kind::Consumer, r#"{"custom_id":5,"username":""}"#, "custom_id: type, username: empty"),
+        (
+            Kind::Consumer,
+            r#"{"custom_id":"a\u0085"}"#,
+            "custom_id: syntax",
+        ),
+        (
+            Kind::Consumer,
+            r#"{"custom_id":5,"username":""}"#,
+            "custom_id: type, username: empty",
+        ),
         (Kind::KeyCred, r#"{"key":"k","consumer":"a b"}"#, ""),
-        (Kind::KeyCred, r#"{"key":"","ttl":5}"#, "key: empty, ttl: fixed"),
-        (Kind::KeyCred, r#"{"consumer":{"name":"a"}}"#, "consumer: type"),
-        (Kind::BasicCred, r#"{"username":"a\n","password":""}"#, "password: empty, username: syntax"),
+        (
+            Kind::KeyCred,
+            r#"{"key":"","ttl":5}"#,
+            "key: empty, ttl: fixed",
+        ),
+        (
+            Kind::KeyCred,
+            r#"{"consumer":{"name":"a"}}"#,
+            "consumer: type",
+        ),
+        (
+            Kind::BasicCred,
+            r#"{"username":"a\n","password":""}"#,
+            "password: empty, username: syntax",
+        ),
         (Kind::BasicCred, r#"{"group":"a"}"#, "group: unknown"),
-        (Kind::Acl, r#"{"group":"a","consumer":{"username":"b"}}"#, ""),
+        (
+            Kind::Acl,
+            r#"{"group":"a","consumer":{"username":"b"}}"#,
+            "",
+        ),
         (Kind::Acl, r#"{"group":7}"#, "group: type"),
     ] {
         assert_eq!(rt; told(rt.alloc(), kind, body)?.as_str(), wanted, "{body}");

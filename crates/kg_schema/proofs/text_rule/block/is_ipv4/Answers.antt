@@ -1,4 +1,3 @@
-use Rattle.std.proofs.Common.{◌∙◌, sym}
 use Rattle.kg_entities.specs.ConfigWords.{is_decimal_within}
 use Rattle.kg_schema.proofs.TextLemmas.{length-now, list_all-now}
 use Rattle.kg_schema.proofs.text_rule.block.is_ipv4.Goals as goal
