@@ -1,0 +1,66 @@
+//! The hosts of a route.
+
+ghost use Rattle.std.specs.Prelude.{◌≡◌, ◌&&◌, ◌+◌, length, nat_eq, nat_lt};
+ghost use Rattle.std.specs.List.{list_any, position, starts_with, ends_with};
+ghost use Rattle.std.specs.Str.{bytes_eq, str_to_ascii_lowercase};
+ghost use Rattle.kg_match.specs.Attributes.{fits_where};
+ghost use Rattle.kg_match.specs.Wildcards.{asterisk, is_wildcard, host_fits};
+
+use kg_text::Text;
+
+/// Are no hosts set, or does one of them fit this host, in any case?
+pub fn hosts_fit(hosts: &[Text], host: &[u8]) -> bool
+    ensures { result ≡ fits_where (λ wanted. host_fits wanted (str_to_ascii_lowercase host.now)) hosts.now }
+{
+    hosts.is_empty() || has(hosts, host)
+}
+
+fn has(hosts: &[Text], host: &[u8]) -> bool
+    ensures { result ≡ list_any (λ wanted. host_fits wanted (str_to_ascii_lowercase host.now)) hosts.now }
+{
+    hosts
+        .iter()
+        .any(|wanted| fits_in_any_case(wanted.as_bytes(), host))
+}
+
+/// Has this host of a route an asterisk?
+pub fn is_wildcard(host: &Text) -> bool
+    ensures { result ≡ is_wildcard host.now }
+{
+    host.as_bytes().iter().any(|byte| *byte == b'*')
+}
+
+fn fits_in_any_case(wanted: &[u8], host: &[u8]) -> bool
+    ensures { result ≡ host_fits wanted.now (str_to_ascii_lowercase host.now) }
+{
+    match asterisk_at(wanted) {
+        Some(at) => surround(&wanted[..at], &wanted[at + 1..], host),
+        None => is_lower_case_of(wanted, host),
+    }
+}
+
+fn asterisk_at(host: &[u8]) -> Option<usize>
+    ensures { result ≡ position (λ byte. byte == asterisk) host.now }
+{
+    host.iter().position(|byte| *byte == b'*')
+}
+
+// Does the host, in lower case, begin and end so, with one or more bytes between?
+fn surround(before: &[u8], after: &[u8], host: &[u8]) -> bool
+    ensures { result ≡ (starts_with nat_eq (str_to_ascii_lowercase host.now) before.now && ends_with nat_eq (str_to_ascii_lowercase host.now) after.now && nat_lt (length before.now + length after.now) (length (str_to_ascii_lowercase host.now))) }
+{
+    before.len() < host.len()
+        && after.len() < host.len() - before.len()
+        && is_lower_case_of(before, &host[..before.len()])
+        && is_lower_case_of(after, &host[host.len() - after.len()..])
+}
+
+fn is_lower_case_of(lower: &[u8], raw: &[u8]) -> bool
+    ensures { result ≡ bytes_eq lower.now (str_to_ascii_lowercase raw.now) }
+{
+    lower.len() == raw.len()
+        && lower
+            .iter()
+            .zip(raw)
+            .all(|(a, b)| *a == b.to_ascii_lowercase())
+}

@@ -1,0 +1,97 @@
+-- The first candidate whose route fits leads to the best route.
+use Rattle.std.proofs.Common.{◌≡◌, ℕ, ◌+◌, ◌<◌, ◌≤◌, Bool, true, false, ◌&&◌, List, [], ◌∷◌, ◌++◌, length, get_or, take, Option, Some, None, is_some, IsSome, option_map, option_and_then, refl, sym, ap, ◌∙◌, subst, All, Any, Contains, inl, inr, true≢false, is_lt, arith}
+use Rattle.std.proofs.lemmas.Bool.{cases_lt, cases_eq}
+use Rattle.std.proofs.lemmas.List.{get_or_default, get_or-take, length-take-le, length_push, get_or_push}
+use Rattle.std.proofs.lemmas.List.Elements.{All-push}
+use Rattle.std.proofs.lemmas.List.MinMax.{ranks_by}
+use Rattle.std.proofs.lemmas.List.Sorted.{sorted_far}
+use Rattle.kg_entities.specs.declared.route.Route.{Route}
+use Rattle.kg_entities.specs.declared.service.Service.{Service}
+use Rattle.kg_match.specs.Fits.{fits, cut_of}
+use Rattle.kg_message.specs.declared.request.Request.{Request}
+use Rattle.kg_router.specs.declared.candidate.Candidate.{Candidate}
+use Rattle.kg_router.specs.Best.{Choice, service_of, takes, best_route, best_choice}
+use Rattle.kg_router.specs.Order.{is_before}
+use Rattle.kg_router.specs.Ranks.{rank_of, rank_cmp}
+use Rattle.kg_router.specs.Table.{IsCandidate, AreListed, IsTable}
+use Rattle.kg_router.proofs.BestRoute.{AreApart, best-found, best-none}
+use Rattle.kg_router.proofs.RouteOrder.{rank_cmp_total, route_cmp_by_rank}
+
+and_left : (a b : Bool) → (a && b) ≡ true → a ≡ true
+and_left true b both = refl
+and_left false b both = absurd (cc)
+
+and_right : (a b : Bool) → (a && b) ≡ true → b ≡ true
+and_right true b both = both
+and_right false b both = absurd (cc)
+
+-- the candidate's route doesn't fit
+abbrev pub IsUnfit : List Route → Request → Candidate → Type 0
+IsUnfit routes request candidate = (d : Route) → fits (get_or routes candidate.test d) request ≡ false
+
+-- the candidate of a rank before another's
+abbrev ranks_before : Candidate → Candidate → Bool
+ranks_before a b = is_lt (rank_cmp a.rank b.rank)
+
+-- the choice of a route and its service
+abbrev pub choice_for : List Service → Request → Route → Option Choice
+choice_for services request route = option_map (λ service. record { route = route; service = service; cut = cut_of route request }) (service_of services route)
+
+module _ (services : List Service) (routes : List Route) (candidates : List Candidate) (request : Request) (table : IsTable services routes candidates) (distinct : AreApart routes) where
+  -- a route that takes the request has a candidate
+  candidate-of : (route : Route) → Contains routes route → takes services request route ≡ true → Any (λ candidate. get_or routes candidate.test route ≡ route) candidates
+  candidate-of route within taking =
+      let led : IsSome (service_of services (get_or routes within.0 route)) = subst (λ r. IsSome (service_of services r)) (sym within.2) (and_right (fits route request) (is_some (service_of services route)) taking) in
+      let any = table.listed.complete within.0 route within.1 led in
+      (any.0, any.1, any.2, any.3, ap (λ k. get_or routes k route) any.4 ∙ within.2)
+
+  -- a route that takes the request is none whose candidate is unfit
+  not-unfit : (route : Route) (candidate : Candidate) → takes services request route ≡ true → get_or routes candidate.test route ≡ route → IsUnfit routes request candidate → ⊥
+  not-unfit route candidate taking at unfit =
+      true≢false (sym (and_left (fits route request) (is_some (service_of services route)) taking) ∙ ap (λ r. fits r request) (sym at) ∙ unfit route)
+
+  -- where no candidate fits, no route takes the request
+  pub none-takes : All (IsUnfit routes request) candidates → best_choice services routes request ≡ None
+  none-takes unfit = ap (option_and_then (choice_for services request)) (best-none routes distinct (takes services request) (λ other within. by_taking other within (takes services request other) refl))
+    where
+      by_taking : (other : Route) → Contains routes other → (taking : Bool) → takes services request other ≡ taking → takes services request other ≡ false
+      by_taking other within true is =
+          let any = candidate-of other within is in
+          absurd (not-unfit other any.1 is any.4 (subst (IsUnfit routes request) any.3 (unfit any.0 any.1 any.2)))
+      by_taking other within false is = is
+
+  module _ (at : ℕ) (candidate : Candidate) (below : at < length candidates) (here : get_or candidates at candidate ≡ candidate) (unfit : All (IsUnfit routes request) (take at candidates)) where
+    own : IsCandidate services routes candidate
+    own = subst (IsCandidate services routes) here (table.listed.each at candidate below)
+
+    -- no candidate before it fits, so what fits comes after it
+    later : (other : Route) → takes services request other ≡ true → (place : ℕ) (rival : Candidate) → get_or candidates place rival ≡ rival → get_or routes rival.test other ≡ other → at ≤ place
+    later other taking place rival there rival_at = elim (cases_lt place at) [
+      | inl before ↦
+          let within : place < length (take at candidates) = omega (arith, length-take-le at candidates (omega (arith, below))) in
+          let same : get_or (take at candidates) place rival ≡ rival = get_or-take at candidates place rival before ∙ there in
+          absurd (not-unfit other rival taking rival_at (subst (IsUnfit routes request) same (unfit place rival within)))
+      | inr beyond ↦ beyond
+    ]
+
+    behind : (other : Route) → Contains routes other → takes services request other ≡ true → is_before other own.route ≡ false
+    behind other within taking =
+        let any = candidate-of other within taking in
+        let rival = any.1 in
+        let far = sorted_far ranks_before (ranks_by rank_cmp_total (λ (c : Candidate). c.rank)) candidates table.ordered at any.0 rival (later other taking any.0 rival any.3 any.4) any.2 in
+        let its = subst (IsCandidate services routes) any.3 (table.listed.each any.0 rival any.2) in
+        let its_route : its.route ≡ other = sym its.at_test ∙ get_or_default routes rival.test its.route other its.within_routes ∙ any.4 in
+        let at_here : get_or candidates at rival ≡ candidate = get_or_default candidates at rival candidate below ∙ here in
+        let ranks : ranks_before rival candidate ≡ false = (λ i. ranks_before (sym any.3 i) (sym at_here i)) ∙ far in
+        ap is_lt (route_cmp_by_rank other own.route ∙ (λ i. rank_cmp (rank_of (sym its_route i)) (sym own.rank i)) ∙ (λ i. rank_cmp (sym its.rank i) candidate.rank)) ∙ ranks
+
+    -- the first candidate whose route fits is the choice
+    pub first-takes : (route : Route) (service : Service) → get_or routes candidate.test route ≡ route → get_or services candidate.service service ≡ service → fits route request ≡ true → best_choice services routes request ≡ Some (record { route = route; service = service; cut = cut_of route request })
+    first-takes route service at_route at_service fit =
+        let same_route : own.route ≡ route = sym own.at_test ∙ get_or_default routes candidate.test own.route route own.within_routes ∙ at_route in
+        let same_service : own.service ≡ service = sym own.at_service ∙ get_or_default services candidate.service own.service service own.within_services ∙ at_service in
+        let within : Contains routes own.route = (candidate.test, own.within_routes, own.at_test) in
+        let taking : takes services request own.route ≡ true = (λ i. fits (same_route i) request && is_some (own.leads i)) ∙ ap (λ b. b && true) fit in
+        ap (option_and_then (choice_for services request)) (best-found routes distinct (takes services request) own.route within taking behind)
+        ∙ ap (option_map (λ s. record { route = own.route; service = s; cut = cut_of own.route request })) own.leads
+        ∙ (λ i. Some (record { route = same_route i; service = same_service i; cut = cut_of (same_route i) request }))
