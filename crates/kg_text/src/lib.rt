@@ -5,6 +5,7 @@
 #![tactic(auto)]
 
 mod bytes;
+mod clone;
 mod copy;
 mod error;
 mod escape;
@@ -16,6 +17,7 @@ mod segment;
 mod text;
 
 pub use crate::bytes::Bytes;
+pub use crate::clone::TryClone;
 pub use crate::copy::CopyKey;
 pub use crate::error::{NoMemory, TextError};
 pub use crate::list::List;

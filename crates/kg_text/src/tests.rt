@@ -1,6 +1,8 @@
 ghost use Rattle.std.specs.Prelude.{◌≡◌, [], ◌∷◌, IfOk};
 
-use crate::{Bytes, CopyKey, List, Name, NoMemory, Pair, Text, TextError, is_normal, normalise};
+use crate::{
+    Bytes, CopyKey, List, Name, NoMemory, Pair, Text, TextError, TryClone, is_normal, normalise,
+};
 use std::alloc::Global;
 use std::test::Fail;
 
@@ -96,6 +98,34 @@ fn answers_are_given_with_ample_memory(rt: HostRuntime) -> Result<(), Fail> {
         value: Text::new(alloc),
     };
     assert!(rt; pair.name.as_str() == "a" && pair.value.is_empty());
+    Ok(())
+}
+
+#[test]
+fn members_are_set_kept_and_copied(rt: HostRuntime) -> Result<(), Fail> {
+    let mut list = list_of(rt.alloc(), 1u32, 2)?;
+    list.set(0, 3);
+    list.push(4)?;
+    list.retain(|item| *item != 2);
+    assert!(rt; list.as_slice() == [3, 4].as_slice());
+    Ok(())
+}
+
+fn clone_of<T: TryClone>(alloc: Global, value: &T) -> Result<T, NoMemory>
+    ensures { IfOk result (λ copy. copy ≡ value.now) }
+{
+    value.try_clone(alloc)
+}
+
+#[test]
+fn copies_equal_their_source(rt: HostRuntime) -> Result<(), Fail> {
+    let alloc = rt.alloc();
+    let names = list_of(alloc, Name::of(alloc, b"a")?, Name::of(alloc, b"b")?)?;
+    assert!(rt; clone_of(alloc, &names)? == names);
+    let texts = list_of(alloc, Some(Text::from_str(alloc, "c")?), None)?;
+    assert!(rt; clone_of(alloc, &texts)? == texts);
+    let bytes = Bytes::from_slice(alloc, b"d")?;
+    assert!(rt; clone_of(alloc, &bytes)? == bytes);
     Ok(())
 }
 
