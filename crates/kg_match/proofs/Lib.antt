@@ -1,2 +1,4 @@
-pub mod PathLemmas
-pub mod PatternLemmas
+mod CompileLemmas
+mod HostLemmas
+mod PathLemmas
+mod PatternLemmas

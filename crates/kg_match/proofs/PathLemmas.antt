@@ -1,8 +1,9 @@
 -- Which paths fit, and how many bytes they take.
-use Rattle.std.proofs.Common.{◌≡◌, ℕ, Bool, true, false, cond, not, ◌&&◌, ◌||◌, max, List, [], ◌∷◌, map, filter, length, Option, Some, None, is_some, refl, sym, ap, ◌∙◌, nat_eq}
+use Rattle.std.proofs.Common.{◌≡◌, ◌≢◌, ℕ, Bool, true, false, cond, not, ◌&&◌, ◌||◌, max, List, [], ◌∷◌, map, filter, length, Option, Some, None, is_some, refl, sym, ap, ◌∙◌, nat_eq}
 use Rattle.std.specs.List.{list_any, reduce, starts_with}
 use Rattle.std.specs.Option.{option_or, unwrap_or}
-use Rattle.kg_match.specs.RoutePaths.{is_regex, pattern_text, pattern_cut, is_prefix, path_fits, patterns_of, first_cut, longest_prefix, path_cut}
+use Rattle.kg_entities.specs.Words.{is_regex_path}
+use Rattle.kg_match.specs.RoutePaths.{pattern_text, pattern_cut, is_prefix, path_fits, patterns_of, first_cut, longest_prefix, path_cut}
 
 or_assoc : (a b c : Bool) → ((a || b) || c) ≡ (a || (b || c))
 or_assoc true b c = refl
@@ -29,9 +30,9 @@ longest-some path (wanted ∷ rest) = by_test (is_prefix path wanted) (longest-s
 -- a path fits exactly where a pattern takes something or there is a prefix
 one_fits : (path : List ℕ) (paths : List (List ℕ)) → (is_some (first_cut path (patterns_of paths)) || list_any (is_prefix path) paths) ≡ list_any (path_fits path) paths
 one_fits path [] = refl
-one_fits path (wanted ∷ rest) = by_regex (is_regex wanted) (one_fits path rest)
+one_fits path (wanted ∷ rest) = by_regex (is_regex_path wanted) (one_fits path rest)
   where
-    by_regex : (regex : Bool) → (is_some (first_cut path (patterns_of rest)) || list_any (is_prefix path) rest) ≡ list_any (path_fits path) rest → (is_some (first_cut path (map pattern_text (cond regex (wanted ∷ filter is_regex rest) (filter is_regex rest)))) || ((not regex && starts_with nat_eq path wanted) || list_any (is_prefix path) rest)) ≡ (cond regex (is_some (pattern_cut (pattern_text wanted) path)) (starts_with nat_eq path wanted) || list_any (path_fits path) rest)
+    by_regex : (regex : Bool) → (is_some (first_cut path (patterns_of rest)) || list_any (is_prefix path) rest) ≡ list_any (path_fits path) rest → (is_some (first_cut path (map pattern_text (cond regex (wanted ∷ filter is_regex_path rest) (filter is_regex_path rest)))) || ((not regex && starts_with nat_eq path wanted) || list_any (is_prefix path) rest)) ≡ (cond regex (is_some (pattern_cut (pattern_text wanted) path)) (starts_with nat_eq path wanted) || list_any (path_fits path) rest)
     by_regex true later =
         let own = pattern_cut (pattern_text wanted) path in
         let more = first_cut path (patterns_of rest) in
@@ -54,3 +55,12 @@ taken path paths =
     let fits : is_some (option_or first longest) ≡ list_any (path_fits path) paths =
         is_some-or first longest ∙ ap (λ some. is_some first || some) (longest-some path paths) ∙ one_fits path paths in
     some_or_none (option_or first longest) ∙ ap (λ some. cond some (Some (path_cut paths path)) None) fits
+
+-- where there is a pattern, a path is a regular expression
+pub some_pattern : (paths : List (List ℕ)) → patterns_of paths ≢ [] → list_any is_regex_path paths ≡ true
+some_pattern [] some = absurd (some refl)
+some_pattern (path ∷ rest) some = by_regex (is_regex_path path) some (some_pattern rest)
+  where
+    by_regex : (regex : Bool) → map pattern_text (cond regex (path ∷ filter is_regex_path rest) (filter is_regex_path rest)) ≢ [] → (patterns_of rest ≢ [] → list_any is_regex_path rest ≡ true) → (regex || list_any is_regex_path rest) ≡ true
+    by_regex true some later = refl
+    by_regex false some later = later some

@@ -1,5 +1,5 @@
 -- What the crate `regex` says of a text and of a search, in the words of the patterns of paths.
-use Rattle.std.proofs.Common.{◌≡◌, ◌≢◌, ◌≤◌, ◌<◌, ℕ, Bool, true, false, cond, List, Option, Some, None, IsSomeAnd, IfSome, is_some, option_map, option_and_then, nat_le, get_or, ⊎_elim, refl, ap, arith}
+use Rattle.std.proofs.Common.{◌≡◌, ◌≢◌, ◌≤◌, ◌<◌, ℕ, Bool, true, false, cond, List, Option, Some, None, IsSomeAnd, IfSome, is_some, option_map, option_and_then, nat_le, nat_eq, length, get_or, ⊎_elim, refl, sym, ap, ◌∙◌, arith}
 use Rattle.std.specs.Str.{chars}
 use Rattle.regex.specs.Patterns.{Re, Reads, Refuses, default_config, find_str, span}
 use Rattle.regex.specs.Failures.{IsRightKind}
@@ -18,7 +18,8 @@ use Rattle.regex_syntax.specs.Grammar.{Names, group_count, read}
 use Rattle.regex_syntax.specs.declared.error.Error as parser
 use Rattle.regex_syntax.specs.declared.error.ErrorKind.{ErrorKind}
 use Rattle.regex_syntax.specs.declared.error.ErrorKind.TheVariants.{OutOfMemory}
-use Rattle.kg_match.specs.Patterns.{pattern_of, is_pattern, first_match}
+use Rattle.kg_entities.specs.Patterns.{pattern_of, is_pattern, first_match}
+use Rattle.kg_match.specs.RoutePaths.{pattern_cut}
 
 -- what is kept of a text that the grammar reads
 abbrev kept : Nested Re × Names → Option Re
@@ -59,13 +60,22 @@ refused_pattern text kind other refuses =
 pub syntax_refused : (text : List ℕ) (given : parser.Error) → IsRefusal default_config text (Syntax given) → IsRightKind default_config text (Syntax given) → is_pattern text ≡ false
 syntax_refused text given refusal kind = refused_pattern text given.kind kind (refusal given refl)
 
+-- the text of a compiled pattern is a pattern
+pub compiled_reads : (regex : Regex) (text : List ℕ) → regex_source regex ≡ text → regex_config regex ≡ default_config → IsReadFromSource regex → is_pattern text ≡ true
+compiled_reads regex text source config is_read = reads_pattern text _ _ (rw (source, config) at is_read)
+
 -- a search with the compiled pattern finds the first match of its text
 pub match_same : (regex : Regex) → regex_config regex ≡ default_config → IsReadFromSource regex → (path : List ℕ) → ((k : ℕ) → get_or path k 0 < 256) → option_map span (find_str (regex_pattern regex) path 0) ≡ first_match (regex_source regex) path
 unfolding Reads pattern_of first_match
-match_same regex config is_read path bytes = by_parsed (read default_config (chars (regex_source regex))) refl (rw config at is_read)
+match_same regex config is_read path bytes = by_parsed (read default_config (chars (regex_source regex))) refl (rw config at is_read) (λ parsed reads. reads.0)
   where
-    by_parsed : (parsed : Option (Nested Re × Names)) → read default_config (chars (regex_source regex)) ≡ parsed → IsSomeAnd parsed (λ (re, _). re.depth ≤ 250) → option_map span (find_str (regex_pattern regex) path 0) ≡ option_and_then (λ re. option_map span (find_str re path 0)) (option_and_then kept parsed)
-    by_parsed None is reads = absurd reads
-    by_parsed (Some parsed) is reads =
+    by_parsed : {Q : Nested Re × Names → Type 0} (parsed : Option (Nested Re × Names)) → read default_config (chars (regex_source regex)) ≡ parsed → IsSomeAnd parsed Q → ((one : Nested Re × Names) → Q one → one.0.depth ≤ 250) → option_map span (find_str (regex_pattern regex) path 0) ≡ option_and_then (λ re. option_map span (find_str re path 0)) (option_and_then kept parsed)
+    by_parsed None is reads shallow = absurd reads
+    by_parsed (Some parsed) is reads shallow =
         let written : IsReadAs default_config (regex_source regex) parsed.0.value = rw is (same_refl parsed.0.value) in
-        rw (is_kept parsed reads) (span_alike (alike_as_written regex default_config (regex_source regex) refl config is_read parsed.0.value written) path bytes true 0)
+        rw (is_kept parsed (shallow parsed reads)) (span_alike (alike_as_written regex default_config (regex_source regex) refl config is_read parsed.0.value written) path bytes true 0)
+
+-- what is found tells how many bytes the pattern takes
+pub cut_same : (regex : Regex) → regex_config regex ≡ default_config → IsReadFromSource regex → (path : List ℕ) → ((k : ℕ) → get_or path k 0 < 256) → (found : Option (ℕ × ℕ)) → found ≡ option_map span (find_str (regex_pattern regex) path 0) → option_and_then (λ one. cond (nat_eq one.0 0) (Some one.1) None) found ≡ pattern_cut (regex_source regex) path
+cut_same regex config is_read path bytes found is =
+    ap (option_and_then (λ one. cond (nat_eq one.0 0) (Some one.1) None)) (is ∙ match_same regex config is_read path bytes)

@@ -1,4 +1,4 @@
 pub mod Attributes
-pub mod Patterns
+pub mod Fits
 pub mod RoutePaths
 pub mod Wildcards

@@ -18,12 +18,16 @@ before_asterisk wildcard = take (position_or_len (λ byte. byte == asterisk) wil
 abbrev pub after_asterisk : List ℕ → List ℕ
 after_asterisk wildcard = drop (position_or_len (λ byte. byte == asterisk) wildcard + 1) wildcard
 
--- the host begins and ends as the wildcard does, with one or more bytes between
+-- the host begins and ends so, with one or more bytes between
+abbrev pub is_between : List ℕ → List ℕ → List ℕ → Bool
+is_between before after host =
+    nat_lt (length before + length after) (length host)
+    && starts_with nat_eq host before
+    && ends_with nat_eq host after
+
+-- the asterisk stands for one or more bytes of the host
 abbrev pub wildcard_fits : List ℕ → List ℕ → Bool
-wildcard_fits wildcard host =
-    starts_with nat_eq host (before_asterisk wildcard)
-    && ends_with nat_eq host (after_asterisk wildcard)
-    && nat_lt (length (before_asterisk wildcard) + length (after_asterisk wildcard)) (length host)
+wildcard_fits wildcard host = is_between (before_asterisk wildcard) (after_asterisk wildcard) host
 
 -- the host of a route fits the host that a request names
 abbrev pub host_fits : List ℕ → List ℕ → Bool

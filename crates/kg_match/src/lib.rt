@@ -2,12 +2,16 @@
 #![tactic(auto)]
 
 mod error;
+mod header;
 mod host;
 mod method;
 mod path;
 mod pattern;
+mod route_test;
+#[cfg(test)]
+mod tests;
 
 pub use crate::error::BuildError;
-pub use crate::host::{hosts_fit, is_wildcard};
-pub use crate::method::methods_fit;
-pub use crate::path::{compile, cut_where_fits, is_regex};
+pub use crate::host::is_wildcard;
+pub use crate::path::is_regex_path;
+pub use crate::route_test::RouteTest;

@@ -2,7 +2,8 @@
 
 ghost use Rattle.std.specs.Prelude.{◌≡◌, ◌≢◌, ◌∷◌, ◌++◌, [], ℕ, Err, IfOk, IsTrue, MatchOption, None, OnErr, OnOk, Some, false, not};
 ghost use Rattle.std.specs.Option.{option_or};
-ghost use Rattle.kg_match.specs.RoutePaths.{is_regex, is_prefix, first_cut, longest_prefix, patterns_of, cut_where_fits, has_bad_pattern, bad_pattern_of};
+ghost use Rattle.kg_entities.specs.Words.{is_regex_path};
+ghost use Rattle.kg_match.specs.RoutePaths.{is_prefix, first_cut, longest_prefix, patterns_of, cut_where_fits, has_bad_pattern, bad_pattern_of};
 ghost use Rattle.kg_match.specs.declared.error.BuildError.TheVariants.{BadPattern as IsBad};
 
 use crate::error::BuildError;
@@ -11,8 +12,8 @@ use kg_text::{NoMemory, Text};
 use std::alloc::Global;
 
 /// Is this path of a route a pattern after a `~`?
-pub fn is_regex(path: &Text) -> bool
-    ensures { result ≡ is_regex path.now }
+pub fn is_regex_path(path: &Text) -> bool
+    ensures { result ≡ is_regex_path path.now }
 {
     path.as_bytes().starts_with(b"~")
 }
@@ -53,7 +54,7 @@ fn push_pattern(
 
 // What stands after the `~` of a regex path.
 fn pattern_text(path: &str) -> Option<&str>
-    ensures { MatchOption result (is_regex path.now ≡ false) (λ text. path.now ≡ 126 ∷ text.now) }
+    ensures { MatchOption result (is_regex_path path.now ≡ false) (λ text. path.now ≡ 126 ∷ text.now) }
 {
     path.strip_prefix('~')
 }
@@ -123,5 +124,5 @@ fn longest_prefix(paths: &[Text], path: &[u8]) -> Option<usize>
 fn is_prefix(path: &[u8], wanted: &Text) -> bool
     ensures { result ≡ is_prefix path.now wanted.now }
 {
-    !is_regex(wanted) && path.starts_with(wanted.as_bytes())
+    !is_regex_path(wanted) && path.starts_with(wanted.as_bytes())
 }
