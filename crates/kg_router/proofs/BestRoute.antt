@@ -2,18 +2,27 @@
 use Rattle.std.proofs.Common.{◌≡◌, ◌≢◌, ℕ, ◌<◌, Bool, true, false, ◌||◌, ◌==◌, List, [], map, length, get_or, Some, None, refl, sym, ap, ◌∙◌, find, filter, All, AllPairs, Contains, IsTrue, inl, inr, true≢false, nat_eq, arith}
 use Rattle.std.specs.List.{list_all, IsDistinct}
 use Rattle.std.proofs.lemmas.Bool.{cases_lt}
-use Rattle.std.proofs.lemmas.List.{get_or_default}
+use Rattle.std.proofs.lemmas.Bool.Decides.{Decides-eqb}
+use Rattle.std.proofs.lemmas.List.{get_or_default, get_or-map, length-map}
 use Rattle.std.proofs.lemmas.List.Elements.{All-contains, All-contains_itself}
 use Rattle.std.proofs.lemmas.List.Sums.{AllPass-from_list_all, list_all-from_AllPass}
+use Rattle.std.proofs.lemmas.Map.Made.{AllPairs-from_IsDistinct}
 use Rattle.kg_entities.specs.declared.route.Route.{Route}
 use Rattle.kg_router.specs.Order.{is_before}
 use Rattle.kg_router.specs.Best.{is_first_of}
+use Rattle.kg_router.specs.RouterRows.{HasDistinctRoutes}
 use Rattle.kg_router.proofs.RouteOrder.{one_is_before}
 use Rattle.kg_router.proofs.Search.{find-only, filter-none, Contains-filter, Contains-filtered}
 
 -- no two routes have one id
 abbrev pub AreApart : List Route → Type 0
 AreApart routes = AllPairs (λ a b. a.id ≢ b.id) routes
+
+pub apart : (routes : List Route) → HasDistinctRoutes routes → AreApart routes
+apart routes distinct i j d below within same =
+    let number = λ (route : Route). route.id in
+    AllPairs-from_IsDistinct Decides-eqb (map number routes) distinct i j d.id below (omega (arith, within, length-map routes number))
+    (get_or-map number routes i d d.id (omega (arith, below, within)) ∙ same ∙ sym (get_or-map number routes j d d.id within))
 
 -- two members of one id are one, where the ids are distinct
 pub same_by_id : (routes : List Route) → AreApart routes → (a b : Route) → Contains routes a → Contains routes b → a.id ≡ b.id → a ≡ b
@@ -33,14 +42,14 @@ same_by_id routes distinct a b at_a at_b same =
 pub first_or_same : (one other : Route) → is_before other one ≡ false → (other.id == one.id || is_before one other) ≡ true
 first_or_same one other behind = by_ids (nat_eq other.id one.id) refl
   where
+    equal : (m n : ℕ) → m ≡ n → nat_eq m n ≡ true
+    equal m n same = grind arith
     by_ids : (same : Bool) → nat_eq other.id one.id ≡ same → (same || is_before one other) ≡ true
     by_ids true is = refl
     by_ids false is = elim (one_is_before one other (λ same. true≢false (sym (equal other.id one.id (sym same)) ∙ is))) [
       | inl before ↦ before
       | inr before ↦ absurd (true≢false (sym before ∙ behind))
     ]
-    equal : (m n : ℕ) → m ≡ n → nat_eq m n ≡ true
-    equal m n same = grind arith
 
 -- a route that another one doesn't come before has the other's id, or comes first
 same_id : (one x : Route) → is_before x one ≡ false → (one.id == x.id || is_before x one) ≡ true → x.id ≡ one.id

@@ -1,4 +1,4 @@
 mod BestRoute
 mod RouteOrder
 mod Search
-mod TableLemmas
+pub mod TableLemmas

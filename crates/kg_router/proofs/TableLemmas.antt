@@ -1,13 +1,15 @@
 -- The first candidate whose route fits leads to the best route.
-use Rattle.std.proofs.Common.{◌≡◌, ℕ, ◌+◌, ◌<◌, ◌≤◌, Bool, true, false, ◌&&◌, List, [], ◌∷◌, ◌++◌, length, get_or, take, Option, Some, None, is_some, IsSome, option_map, option_and_then, refl, sym, ap, ◌∙◌, subst, All, Any, Contains, inl, inr, true≢false, is_lt, arith}
+use Rattle.std.proofs.Common.{◌≡◌, ℕ, ◌+◌, ◌<◌, ◌≤◌, Bool, true, false, cond, ◌&&◌, List, [], ◌∷◌, ◌++◌, length, get_or, take, Option, Some, None, is_some, IsSome, option_map, option_and_then, refl, sym, ap, ◌∙◌, subst, All, Any, Contains, inl, inr, true≢false, is_lt, arith}
 use Rattle.std.proofs.lemmas.Bool.{cases_lt, cases_eq}
-use Rattle.std.proofs.lemmas.List.{get_or_default, get_or-take, length-take-le, length_push, get_or_push}
-use Rattle.std.proofs.lemmas.List.Elements.{All-push}
+use Rattle.std.proofs.lemmas.List.{get_or_default, get_or_append_left, get_or-take, length-take-le, length_push, get_or_push}
+use Rattle.std.proofs.lemmas.List.Elements.{All-contains, All-contains_itself, All-push}
 use Rattle.std.proofs.lemmas.List.MinMax.{ranks_by}
-use Rattle.std.proofs.lemmas.List.Sorted.{sorted_far}
+use Rattle.std.proofs.lemmas.List.Sorted.{All-permutation, IsPermutation-sym, sorted_far}
+use Rattle.std.proofs.lemmas.Option.{same_Some}
+use Rattle.std.specs.List.Sorted.{IsPermutation}
 use Rattle.kg_entities.specs.declared.route.Route.{Route}
 use Rattle.kg_entities.specs.declared.service.Service.{Service}
-use Rattle.kg_match.specs.Fits.{fits, cut_of}
+use Rattle.kg_match.specs.Fits.{fits, cut_of, match_of}
 use Rattle.kg_message.specs.declared.request.Request.{Request}
 use Rattle.kg_router.specs.declared.candidate.Candidate.{Candidate}
 use Rattle.kg_router.specs.Best.{Choice, service_of, takes, best_route, best_choice}
@@ -24,6 +26,22 @@ and_left false b both = absurd (cc)
 and_right : (a b : Bool) → (a && b) ≡ true → b ≡ true
 and_right true b both = both
 and_right false b both = absurd (cc)
+
+-- what a test answers for a route that fits
+pub matched : (route : Route) (request : Request) (cut : ℕ) → match_of route request ≡ Some cut → (fits route request ≡ true) × (cut ≡ cut_of route request)
+matched route request cut found = by_fit (fits route request) refl found
+  where
+    by_fit : (fit : Bool) → fits route request ≡ fit → cond fit (Some (cut_of route request)) None ≡ Some cut → (fits route request ≡ true) × (cut ≡ cut_of route request)
+    by_fit true is found = (is, sym (same_Some (cut_of route request) cut found))
+    by_fit false is found = absurd (cc)
+
+-- and for one that doesn't
+pub unmatched : (route : Route) (request : Request) → match_of route request ≡ None → fits route request ≡ false
+unmatched route request none = by_fit (fits route request) refl none
+  where
+    by_fit : (fit : Bool) → fits route request ≡ fit → cond fit (Some (cut_of route request)) None ≡ None → fits route request ≡ false
+    by_fit true is none = absurd (cc)
+    by_fit false is none = is
 
 -- the candidate's route doesn't fit
 abbrev pub IsUnfit : List Route → Request → Candidate → Type 0
@@ -95,3 +113,39 @@ module _ (services : List Service) (routes : List Route) (candidates : List Cand
         ap (option_and_then (choice_for services request)) (best-found routes distinct (takes services request) own.route within taking behind)
         ∙ ap (option_map (λ s. record { route = own.route; service = s; cut = cut_of own.route request })) own.leads
         ∙ (λ i. Some (record { route = same_route i; service = same_service i; cut = cut_of (same_route i) request }))
+
+-- ---- how the table is made
+
+-- one more candidate at the end, of the next route
+pub listed-push : (services : List Service) (routes : List Route) (count : ℕ) (candidates : List Candidate) (candidate : Candidate) → AreListed services routes count candidates → candidate.test ≡ count → IsCandidate services routes candidate → AreListed services routes (count + 1) (candidates ++ candidate ∷ [])
+listed-push services routes count candidates candidate listed at own = record { each = All-push (IsCandidate services routes) candidates candidate listed.each own; complete = complete }
+  where
+    old : (k : ℕ) → Any (λ one. one.test ≡ k) candidates → Any (λ one. one.test ≡ k) (candidates ++ candidate ∷ [])
+    old k any = (any.0, any.1, omega (arith, any.2, length_push candidates candidate), get_or_append_left candidates (candidate ∷ []) any.1 any.0 any.2 ∙ any.3, any.4)
+    complete : (k : ℕ) (d : Route) → k < count + 1 → IsSome (service_of services (get_or routes k d)) → Any (λ one. one.test ≡ k) (candidates ++ candidate ∷ [])
+    complete k d below some = elim (cases_lt k count) [
+      | inl before ↦ old k (listed.complete k d before some)
+      | inr beyond ↦ (length candidates, candidate, omega (arith, length_push candidates candidate), get_or_push candidates candidate candidate (length candidates) refl, at ∙ omega (arith, below, beyond))
+    ]
+
+-- the next route's service takes no part
+pub listed-skip : (services : List Service) (routes : List Route) (count : ℕ) (candidates : List Candidate) → AreListed services routes count candidates → ((d : Route) → service_of services (get_or routes count d) ≡ None) → AreListed services routes (count + 1) candidates
+listed-skip services routes count candidates listed none = record { each = listed.each; complete = complete }
+  where
+    complete : (k : ℕ) (d : Route) → k < count + 1 → IsSome (service_of services (get_or routes k d)) → Any (λ one. one.test ≡ k) candidates
+    complete k d below some = elim (cases_lt k count) [
+      | inl before ↦ listed.complete k d before some
+      | inr beyond ↦
+          let at : k ≡ count = omega (arith, below, beyond) in
+          absurd (true≢false (sym some ∙ ap (λ j. is_some (service_of services (get_or routes j d))) at ∙ ap is_some (none d)))
+    ]
+
+-- the candidates in another order
+pub listed-permuted : (services : List Service) (routes : List Route) (count : ℕ) (candidates sorted : List Candidate) → IsPermutation candidates sorted → AreListed services routes count candidates → AreListed services routes count sorted
+listed-permuted services routes count candidates sorted same listed = record {
+  each = All-permutation (IsCandidate services routes) candidates sorted same listed.each;
+  complete = λ k d below some. let any = listed.complete k d below some in
+      let back = All-permutation (Contains sorted) sorted candidates (IsPermutation-sym candidates sorted same) (All-contains_itself sorted) in
+      let there = All-contains (Contains sorted) candidates any.1 back (any.0, any.2, any.3) in
+      (there.0, any.1, there.1, there.2, any.4);
+}

@@ -1,17 +1,14 @@
 -- The order of routes (Kong Gateway manual, "How Kong matches requests"; which comparison weighs more
 -- is this project's own).
-use Rattle.std.specs.Prelude.{ℕ, ◌-◌, max, ℤ, pos, Bool, List, [], ◌∷◌, map, length, count_by, nat_lt, fold, if◌then◌else◌}
+use Rattle.std.specs.Prelude.{ℕ, ◌-◌, max, ℤ, pos, Bool, List, [], ◌∷◌, map, length, count_by, fold, if◌then◌else◌}
 use Rattle.std.specs.List.{list_any}
 use Rattle.std.specs.declared.cmp.Ordering.{Ordering}
 use Rattle.std.specs.declared.cmp.Ordering.TheVariants.{Equal}
 use Rattle.std.specs.Ordering.{ordering_then, is_lt, nat_cmp, int_cmp, bool_cmp}
+use Rattle.kg_entities.specs.Words.{is_regex_path, is_set}
 use Rattle.kg_entities.specs.declared.route.Route.{Route}
-use Rattle.kg_match.specs.RoutePaths.{is_regex, has_regex_path}
+use Rattle.kg_match.specs.RoutePaths.{has_regex_path}
 use Rattle.kg_match.specs.Wildcards.{is_wildcard}
-
--- an attribute is set where its list isn't empty
-abbrev pub is_set : {A : Type 0} → List A → Bool
-is_set values = nat_lt 0 (length values)
 
 -- how many of methods, hosts, headers and paths are set
 abbrev pub attribute_count : Route → ℕ
@@ -27,7 +24,7 @@ regex_priority_of route = if has_regex_path route then route.regex_priority else
 
 -- the bytes of a path, without the `~`
 abbrev pub path_len : List ℕ → ℕ
-path_len path = if is_regex path then length path - 1 else length path
+path_len path = if is_regex_path path then length path - 1 else length path
 
 -- the longest path, and 0 where there is none
 abbrev pub longest_path_len : Route → ℕ

@@ -6,7 +6,7 @@ ghost use Rattle.kg_match.specs.Fits.{match_of};
 ghost use Rattle.kg_match.specs.RoutePaths.{has_regex_path};
 ghost use Rattle.kg_router.specs.Best.{best_choice};
 ghost use Rattle.kg_router.specs.Found.{choice_at};
-ghost use Rattle.kg_router.specs.RouterRows.{AreValidRouterRows};
+ghost use Rattle.kg_router.specs.RouterRows.{HasDistinctRoutes};
 
 use crate::candidate::{Candidate, in_order};
 use kg_entities::{Route, Service};
@@ -36,26 +36,26 @@ pub struct RouterGen {
 }
 
 impl Model for RouterGen {
-    ghost use Rattle.kg_router.specs.RouterRows.{RouterRows, HasDistinctRoutes};
+    ghost use Rattle.kg_router.specs.RouterRows.{RouterRows};
     ghost use Rattle.kg_router.specs.Table.{IsTable};
 
     ghost Value = { RouterRows };
 
     ghost view = { λ gen. record { rev = gen.rev; services = gen.services; routes = gen.tests } };
 
-    ghost invariant = { λ gen. HasDistinctRoutes gen.tests × IsTable gen.services gen.tests gen.candidates.items };
+    ghost invariant = { λ gen. IsTable gen.services gen.tests gen.candidates.items };
 }
 
 impl RouterGen {
-    /// Copies of these rows, with the routes in the order in which they are tried. The rows are
-    /// valid ones; a pattern that is too big to compile counts as want of memory.
+    /// Copies of these rows, with the routes in the order in which they are tried. A pattern that
+    /// is too big to compile counts as want of memory, and so does a bad one, which no valid route
+    /// has.
     pub fn build(
         alloc: Global,
         rev: u64,
         services: &List<Service>,
         routes: &List<Route>,
     ) -> Result<RouterGen, NoMemory>
-        requires { AreValidRouterRows services.now routes.now }
         ensures { IfOk result (λ gen. gen ≡ record { rev = rev; services = services.now; routes = routes.now }) }
     {
         let services = services.try_clone(alloc)?;
@@ -69,10 +69,10 @@ impl RouterGen {
         })
     }
 
-    /// The best of the routes that take the request, if one does. It takes memory only for regex
-    /// paths.
+    /// The best of the routes that take the request, if one does. The routes have distinct ids, as
+    /// valid rows do. It takes memory only for regex paths.
     pub fn find(&self, alloc: Global, request: &Request) -> Result<Option<Choice<'_>>, NoMemory>
-        ensures found { IfOk result (λ found. option_map choice_at found ≡ best_choice self.now.services self.now.routes request.now) }
+        ensures found { HasDistinctRoutes self.now.routes → IfOk result (λ found. option_map choice_at found ≡ best_choice self.now.services self.now.routes request.now) }
         ensures err { OnErr result (IsTrue (list_any has_regex_path self.now.routes)) }
     {
         let services = self.services.as_slice();
@@ -108,7 +108,6 @@ fn tests_of(alloc: Global, routes: &[Route]) -> Result<List<RouteTest>, NoMemory
     Ok(tests)
 }
 
-// A valid route has no bad pattern.
 fn test_of(alloc: Global, route: &Route) -> Result<RouteTest, NoMemory>
     ensures { IfOk result (λ test. test ≡ route.now) }
 {

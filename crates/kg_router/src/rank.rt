@@ -2,12 +2,13 @@
 
 ghost use Rattle.std.specs.Prelude.{◌≡◌, ◌≢◌, ◌⊎◌, IsTrue};
 ghost use Rattle.kg_entities.specs.declared.route.Route.{Route as ARoute};
-ghost use Rattle.kg_router.specs.Order.{is_set, attribute_count, has_wildcard_host, regex_priority_of, path_len, longest_path_len, is_before};
+ghost use Rattle.kg_entities.specs.Words.{is_set};
+ghost use Rattle.kg_router.specs.Order.{attribute_count, has_wildcard_host, regex_priority_of, path_len, longest_path_len, is_before};
 ghost use Rattle.kg_router.specs.Ranks.{rank_of, rank_cmp};
 ghost use Rattle.kg_match.specs.RoutePaths.{has_regex_path};
 
 use kg_entities::{Id, Route};
-use kg_match::{is_regex, is_wildcard};
+use kg_match::{is_regex_path, is_wildcard};
 use kg_text::{List, Text};
 use std::cmp::Ordering;
 
@@ -90,7 +91,7 @@ fn has_wildcard_host(route: &Route) -> bool
 fn has_regex_path(route: &Route) -> bool
     ensures { result ≡ has_regex_path route.now }
 {
-    route.paths.as_slice().iter().any(|path| is_regex(path))
+    route.paths.as_slice().iter().any(|path| is_regex_path(path))
 }
 
 fn regex_priority_of(route: &Route) -> i32
@@ -114,7 +115,7 @@ fn longest_path_len(route: &Route) -> usize
 fn path_len(path: &Text) -> usize
     ensures { result ≡ path_len path.now }
 {
-    if is_regex(path) {
+    if is_regex_path(path) {
         path.len() - 1
     } else {
         path.len()
