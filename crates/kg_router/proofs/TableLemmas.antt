@@ -1,11 +1,14 @@
 -- The first candidate whose route fits leads to the best route.
-use Rattle.std.proofs.Common.{◌≡◌, ℕ, ◌+◌, ◌<◌, ◌≤◌, Bool, true, false, cond, ◌&&◌, List, [], ◌∷◌, ◌++◌, length, get_or, take, Option, Some, None, is_some, IsSome, option_map, option_and_then, refl, sym, ap, ◌∙◌, subst, All, Any, Contains, inl, inr, true≢false, is_lt, arith}
+use Rattle.std.proofs.Common.{◌≡◌, ℕ, ◌+◌, ◌<◌, ◌≤◌, Bool, true, false, cond, ◌&&◌, List, [], ◌∷◌, ◌++◌, length, get_or, take, Option, Some, None, is_some, IsSome, option_map, option_and_then, refl, sym, ap, ◌∙◌, subst, All, Any, Contains, find, nat_lt, inl, inr, true≢false, is_lt, arith}
 use Rattle.std.proofs.lemmas.Bool.{cases_lt, cases_eq}
 use Rattle.std.proofs.lemmas.List.{get_or_default, get_or_append_left, get_or-take, length-take-le, length_push, get_or_push}
 use Rattle.std.proofs.lemmas.List.Elements.{All-contains, All-contains_itself, All-push}
 use Rattle.std.proofs.lemmas.List.MinMax.{ranks_by}
 use Rattle.std.proofs.lemmas.List.Sorted.{All-permutation, IsPermutation-sym, sorted_far}
-use Rattle.std.proofs.lemmas.Option.{same_Some}
+use Rattle.std.specs.List.{position, position_or_len}
+use Rattle.std.proofs.lemmas.Bool.{ltb-true}
+use Rattle.std.proofs.lemmas.List.Folds.{find_at}
+use Rattle.std.proofs.lemmas.Option.{same_Some, slice_get-get_or, slice_get_past}
 use Rattle.std.specs.List.Sorted.{IsPermutation}
 use Rattle.kg_entities.specs.declared.route.Route.{Route}
 use Rattle.kg_entities.specs.declared.service.Service.{Service}
@@ -98,7 +101,7 @@ module _ (services : List Service) (routes : List Route) (candidates : List Cand
         let rival = any.1 in
         let far = sorted_far ranks_before (ranks_by rank_cmp_total (λ (c : Candidate). c.rank)) candidates table.ordered at any.0 rival (later other taking any.0 rival any.3 any.4) any.2 in
         let its = subst (IsCandidate services routes) any.3 (table.listed.each any.0 rival any.2) in
-        let its_route : its.route ≡ other = sym its.at_test ∙ get_or_default routes rival.test its.route other its.within_routes ∙ any.4 in
+        let its_route : its.route ≡ other = sym its.at ∙ get_or_default routes rival.test its.route other its.within ∙ any.4 in
         let at_here : get_or candidates at rival ≡ candidate = get_or_default candidates at rival candidate below ∙ here in
         let ranks : ranks_before rival candidate ≡ false = (λ i. ranks_before (sym any.3 i) (sym at_here i)) ∙ far in
         ap is_lt (route_cmp_by_rank other own.route ∙ (λ i. rank_cmp (rank_of (sym its_route i)) (sym own.rank i)) ∙ (λ i. rank_cmp (sym its.rank i) candidate.rank)) ∙ ranks
@@ -106,12 +109,12 @@ module _ (services : List Service) (routes : List Route) (candidates : List Cand
     -- the first candidate whose route fits is the choice
     pub first-takes : (route : Route) (service : Service) → get_or routes candidate.test route ≡ route → get_or services candidate.service service ≡ service → fits route request ≡ true → best_choice services routes request ≡ Some (record { route = route; service = service; cut = cut_of route request })
     first-takes route service at_route at_service fit =
-        let same_route : own.route ≡ route = sym own.at_test ∙ get_or_default routes candidate.test own.route route own.within_routes ∙ at_route in
-        let same_service : own.service ≡ service = sym own.at_service ∙ get_or_default services candidate.service own.service service own.within_services ∙ at_service in
-        let within : Contains routes own.route = (candidate.test, own.within_routes, own.at_test) in
-        let taking : takes services request own.route ≡ true = (λ i. fits (same_route i) request && is_some (own.leads i)) ∙ ap (λ b. b && true) fit in
+        let same_route : own.route ≡ route = sym own.at ∙ get_or_default routes candidate.test own.route route own.within ∙ at_route in
+        let same_service : own.to.service ≡ service = sym own.to.at ∙ get_or_default services candidate.service own.to.service service own.to.within ∙ at_service in
+        let within : Contains routes own.route = (candidate.test, own.within, own.at) in
+        let taking : takes services request own.route ≡ true = (λ i. fits (same_route i) request && is_some (own.to.leads i)) ∙ ap (λ b. b && true) fit in
         ap (option_and_then (choice_for services request)) (best-found routes distinct (takes services request) own.route within taking behind)
-        ∙ ap (option_map (λ s. record { route = own.route; service = s; cut = cut_of own.route request })) own.leads
+        ∙ ap (option_map (λ s. record { route = own.route; service = s; cut = cut_of own.route request })) own.to.leads
         ∙ (λ i. Some (record { route = same_route i; service = same_service i; cut = cut_of (same_route i) request }))
 
 -- ---- how the table is made
@@ -149,3 +152,27 @@ listed-permuted services routes count candidates sorted same listed = record {
       let there = All-contains (Contains sorted) candidates any.1 back (any.0, any.2, any.3) in
       (there.0, any.1, there.1, there.2, any.4);
 }
+
+-- a service of the id stands at its first place
+pub place-some : {A : Type 0} (test : A → Bool) (xs : List A) (place : ℕ) (one : A) → position test xs ≡ Some place → get_or xs place one ≡ one → find test xs ≡ Some one
+place-some test xs place one found at = by_within (nat_lt (position_or_len test xs) (length xs)) refl found
+  where
+    by_within : (within : Bool) → nat_lt (position_or_len test xs) (length xs) ≡ within → cond within (Some (position_or_len test xs)) None ≡ Some place → find test xs ≡ Some one
+    by_within true is found =
+        let same = same_Some (position_or_len test xs) place found in
+        find_at test xs ∙ slice_get-get_or xs (position_or_len test xs) one (ltb-true (position_or_len test xs) (length xs) is)
+        ∙ ap (λ k. Some (get_or xs k one)) same ∙ ap Some at
+    by_within false is found = absurd (cc)
+
+pub place-none : {A : Type 0} (test : A → Bool) (xs : List A) → position test xs ≡ None → find test xs ≡ None
+place-none test xs none = by_within (nat_lt (position_or_len test xs) (length xs)) refl none
+  where
+    beyond : (m n : ℕ) → nat_lt m n ≡ false → n ≤ m
+    beyond m n is = grind arith
+    by_within : (within : Bool) → nat_lt (position_or_len test xs) (length xs) ≡ within → cond within (Some (position_or_len test xs)) None ≡ None → find test xs ≡ None
+    by_within true is none = absurd (cc)
+    by_within false is none = find_at test xs ∙ slice_get_past xs (position_or_len test xs) (beyond (position_or_len test xs) (length xs) is)
+
+-- the service, if it is enabled
+abbrev pub if_enabled : Service → Option Service
+if_enabled service = cond service.enabled (Some service) None

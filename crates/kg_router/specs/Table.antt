@@ -7,16 +7,20 @@ use Rattle.kg_router.specs.declared.candidate.Candidate.{Candidate}
 use Rattle.kg_router.specs.Best.{service_of}
 use Rattle.kg_router.specs.Ranks.{rank_of, rank_cmp}
 
+-- the service that the route leads to stands at this place
+pub record LeadsTo (services : List Service) (route : Route) (place : ℕ) : Type 0 where
+  pub service : Service
+  pub within : place < length services
+  pub at : slice_index_or services place service ≡ service
+  pub leads : service_of services route ≡ Some service
+
 -- the candidate is a route whose service takes part, by their places and with the route's rank
 pub record IsCandidate (services : List Service) (routes : List Route) (candidate : Candidate) : Type 0 where
   pub route : Route
-  pub service : Service
-  pub within_routes : candidate.test < length routes
-  pub at_test : slice_index_or routes candidate.test route ≡ route
-  pub within_services : candidate.service < length services
-  pub at_service : slice_index_or services candidate.service service ≡ service
-  pub leads : service_of services route ≡ Some service
+  pub within : candidate.test < length routes
+  pub at : slice_index_or routes candidate.test route ≡ route
   pub rank : candidate.rank ≡ rank_of route
+  pub to : LeadsTo services route candidate.service
 
 -- the candidates are the first so many routes whose services take part
 pub record AreListed (services : List Service) (routes : List Route) (count : ℕ) (candidates : List Candidate) : Type 0 where

@@ -1,15 +1,15 @@
 //! The routes that can be found, in the order in which they are tried.
 
-ghost use Rattle.std.specs.Prelude.{◌≡◌, ◌<◌, IfOk, MatchOption, None, OnOk, Some, length, slice_index_or};
+ghost use Rattle.std.specs.Prelude.{◌≡◌, ◌==◌, ◌<◌, IfOk, IfSome, MatchOption, None, OnOk, length};
+ghost use Rattle.std.specs.List.{position};
 ghost use Rattle.std.specs.List.Sorted.{IsPermutation, IsSortedByKey};
-ghost use Rattle.kg_entities.specs.declared.service.Service.{Service as AService};
 ghost use Rattle.kg_router.specs.declared.candidate.Candidate.{Candidate as ACandidate};
 ghost use Rattle.kg_router.specs.Best.{service_of};
 ghost use Rattle.kg_router.specs.Ranks.{rank_cmp};
-ghost use Rattle.kg_router.specs.Table.{AreListed, IsTable};
+ghost use Rattle.kg_router.specs.Table.{AreListed, IsTable, LeadsTo};
 
 use crate::rank::Rank;
-use kg_entities::{Route, Service};
+use kg_entities::{Id, Route, Service};
 use kg_match::RouteTest;
 use kg_text::NoMemory;
 use std::alloc::{AllocError, Global};
@@ -46,12 +46,13 @@ fn listed(
 {
     let mut candidates = Vec::new(alloc);
     for (place, test) in tests.iter().enumerate() {
-        if let Some(service) = service_place(services, test.route()) {
-            candidates.push(Candidate {
+        match service_place(services, test.route()) {
+            Some(service) => candidates.push(Candidate {
                 rank: Rank::of(test.route()),
                 test: place,
                 service,
-            })?;
+            })?,
+            None => {}
         }
     }
     Ok(candidates)
@@ -66,14 +67,24 @@ fn sort(candidates: &mut Vec<Candidate>) -> Result<(), AllocError>
 
 // Where the service stands that the route leads to, if it is there and enabled.
 fn service_place(services: &[Service], route: &Route) -> Option<usize>
-    ensures { MatchOption result (service_of services.now route.now ≡ None) (λ place. (place < length services.now) × ((d : AService) → service_of services.now route.now ≡ Some (slice_index_or services.now place d))) }
+    ensures { MatchOption result (service_of services.now route.now ≡ None) (LeadsTo services.now route.now) }
 {
-    let place = services
-        .iter()
-        .position(|service| service.id == route.service)?;
-    if services[place].enabled {
-        Some(place)
-    } else {
-        None
+    match place_of(services, route.service) {
+        Some(place) => {
+            if services[place].enabled {
+                Some(place)
+            } else {
+                None
+            }
+        }
+        None => None,
     }
+}
+
+// Where the first service of this id stands.
+fn place_of(services: &[Service], id: Id) -> Option<usize>
+    ensures value { result ≡ position (λ service. service.id == id) services.now }
+    ensures within { IfSome result (λ place. place < length services.now) }
+{
+    services.iter().position(|service| service.id == id)
 }

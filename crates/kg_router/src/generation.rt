@@ -79,12 +79,15 @@ impl RouterGen {
         let tests = self.tests.as_slice();
         for candidate in self.candidates.as_slice() {
             let test = &tests[candidate.test];
-            if let Some(cut) = test.matches(alloc, request)? {
-                return Ok(Some(Choice {
-                    route: test.route(),
-                    service: &services[candidate.service],
-                    cut,
-                }));
+            match test.matches(alloc, request)? {
+                Some(cut) => {
+                    return Ok(Some(Choice {
+                        route: test.route(),
+                        service: &services[candidate.service],
+                        cut,
+                    }));
+                }
+                None => {}
             }
         }
         Ok(None)
