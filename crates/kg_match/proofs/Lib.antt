@@ -1,0 +1,4 @@
+mod CompileLemmas
+mod HostLemmas
+mod PathLemmas
+mod PatternLemmas

@@ -1,0 +1,4 @@
+pub mod Attributes
+pub mod Fits
+pub mod RoutePaths
+pub mod Wildcards

@@ -1,0 +1,4 @@
+mod BestRoute
+mod RouteOrder
+mod Search
+pub mod TableLemmas

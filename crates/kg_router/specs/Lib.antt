@@ -1,0 +1,6 @@
+pub mod Best
+pub mod Found
+pub mod Order
+pub mod Ranks
+pub mod RouterRows
+pub mod Table

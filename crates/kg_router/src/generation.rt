@@ -1,0 +1,122 @@
+//! The search for the best route.
+
+ghost use Rattle.std.specs.Prelude.{◌≡◌, IfOk, IsTrue, OnErr, option_map};
+ghost use Rattle.std.specs.List.{list_any};
+ghost use Rattle.kg_match.specs.Fits.{match_of};
+ghost use Rattle.kg_match.specs.RoutePaths.{has_regex_path};
+ghost use Rattle.kg_router.specs.Best.{best_choice};
+ghost use Rattle.kg_router.specs.Found.{choice_at};
+ghost use Rattle.kg_router.specs.RouterRows.{HasDistinctRoutes};
+
+use crate::candidate::{Candidate, in_order};
+use kg_entities::{Route, Service};
+use kg_match::{BuildError, RouteTest};
+use kg_message::Request;
+use kg_text::{List, NoMemory, TryClone};
+use std::alloc::Global;
+use std::marker::Model;
+
+/// A route that takes a request, with its service.
+#[derive(Clone, Copy, Debug)]
+pub struct Choice<'a> {
+    pub route: &'a Route,
+    pub service: &'a Service,
+    /// How many bytes of the request's path the route takes.
+    pub cut: usize,
+}
+
+/// The services and routes of one revision of the configuration, ready to be searched. Contracts
+/// see the revision and the rows that it was built from.
+#[derive(Debug, Drop)]
+pub struct RouterGen {
+    rev: u64,
+    services: List<Service>,
+    tests: List<RouteTest>,
+    candidates: Vec<Candidate>,
+}
+
+impl Model for RouterGen {
+    ghost use Rattle.kg_router.specs.RouterRows.{RouterRows};
+    ghost use Rattle.kg_router.specs.Table.{IsTable};
+
+    ghost Value = { RouterRows };
+
+    ghost view = { λ gen. record { rev = gen.rev; services = gen.services; routes = gen.tests } };
+
+    ghost invariant = { λ gen. IsTable gen.services gen.tests gen.candidates.items };
+}
+
+impl RouterGen {
+    /// Copies of these rows, with the routes in the order in which they are tried. A pattern that
+    /// is too big to compile counts as want of memory, and so does a bad one, which no valid route
+    /// has.
+    pub fn build(
+        alloc: Global,
+        rev: u64,
+        services: &List<Service>,
+        routes: &List<Route>,
+    ) -> Result<RouterGen, NoMemory>
+        ensures { IfOk result (λ gen. gen ≡ record { rev = rev; services = services.now; routes = routes.now }) }
+    {
+        let services = services.try_clone(alloc)?;
+        let tests = tests_of(alloc, routes.as_slice())?;
+        let candidates = in_order(alloc, services.as_slice(), tests.as_slice())?;
+        Ok(RouterGen {
+            rev,
+            services,
+            tests,
+            candidates,
+        })
+    }
+
+    /// The best of the routes that take the request, if one does. The routes have distinct ids, as
+    /// valid rows do. It takes memory only for regex paths.
+    pub fn find(&self, alloc: Global, request: &Request) -> Result<Option<Choice<'_>>, NoMemory>
+        ensures found { HasDistinctRoutes self.now.routes → IfOk result (λ found. option_map choice_at found ≡ best_choice self.now.services self.now.routes request.now) }
+        ensures err { OnErr result (IsTrue (list_any has_regex_path self.now.routes)) }
+    {
+        let services = self.services.as_slice();
+        let tests = self.tests.as_slice();
+        for candidate in self.candidates.as_slice() {
+            let test = &tests[candidate.test];
+            match test.matches(alloc, request)? {
+                Some(cut) => {
+                    return Ok(Some(Choice {
+                        route: test.route(),
+                        service: &services[candidate.service],
+                        cut,
+                    }));
+                }
+                None => {}
+            }
+        }
+        Ok(None)
+    }
+
+    /// The revision that it was built for.
+    pub fn rev(&self) -> u64
+        ensures { result ≡ self.now.rev }
+    {
+        self.rev
+    }
+}
+
+fn tests_of(alloc: Global, routes: &[Route]) -> Result<List<RouteTest>, NoMemory>
+    ensures { IfOk result (λ tests. tests ≡ routes.now) }
+{
+    let mut tests = List::new(alloc);
+    for route in routes {
+        tests.push(test_of(alloc, route)?)?;
+    }
+    Ok(tests)
+}
+
+fn test_of(alloc: Global, route: &Route) -> Result<RouteTest, NoMemory>
+    ensures { IfOk result (λ test. test ≡ route.now) }
+{
+    match RouteTest::build(alloc, route) {
+        Ok(test) => Ok(test),
+        Err(BuildError::BadPattern { .. }) => Err(NoMemory),
+        Err(BuildError::NoMemory) => Err(NoMemory),
+    }
+}

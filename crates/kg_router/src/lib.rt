@@ -1,0 +1,12 @@
+//! The routes of a gateway, ready to be searched: which route takes a request, and to which
+//! service it leads.
+#![tactic(auto)]
+
+mod candidate;
+mod generation;
+mod rank;
+#[cfg(test)]
+mod tests;
+
+pub use crate::generation::{Choice, RouterGen};
+pub use crate::rank::{route_order_is_strict, route_order_is_total};

@@ -1,0 +1,236 @@
+//! Rows for tests.
+
+use kg_entities::{HeaderTest, Id, Route, Service};
+use kg_message::{Headers, Request};
+use kg_text::{Bytes, List, Name, NoMemory, Text};
+use std::alloc::Global;
+use std::test::Fail;
+
+/// What a test says of a route.
+#[derive(Clone, Copy)]
+pub struct Shape<'a> {
+    pub id: u8,
+    pub service: u8,
+    pub methods: &'a [&'a str],
+    pub hosts: &'a [&'a str],
+    pub headers: &'a [&'a str],
+    pub paths: &'a [&'a str],
+    pub regex_priority: i32,
+    pub created_at: u64,
+}
+
+/// A route for GET to the service of id 1.
+pub const BLANK: Shape<'static> = Shape {
+    id: 1,
+    service: 1,
+    methods: &["GET"],
+    hosts: &[],
+    headers: &[],
+    paths: &[],
+    regex_priority: 0,
+    created_at: 0,
+};
+
+const EARLY: Shape<'static> = Shape {
+    created_at: 1,
+    ..BLANK
+};
+
+const LATE: Shape<'static> = Shape {
+    id: 9,
+    created_at: 9,
+    ..BLANK
+};
+
+/// Routes of which the first comes before the second, and why. What is compared later would say
+/// otherwise.
+pub const PAIRS: [(&str, Shape<'static>, Shape<'static>); 8] = [
+    (
+        "more attributes",
+        Shape {
+            hosts: &["*.b"],
+            paths: &["/a"],
+            ..LATE
+        },
+        Shape {
+            paths: &["/aaaa"],
+            ..EARLY
+        },
+    ),
+    (
+        "no wildcard host",
+        Shape {
+            hosts: &["a.b"],
+            headers: &["x"],
+            ..LATE
+        },
+        Shape {
+            hosts: &["a.b", "*.b"],
+            headers: &["x", "y"],
+            ..EARLY
+        },
+    ),
+    (
+        "more header names",
+        Shape {
+            headers: &["x", "y"],
+            paths: &["/a"],
+            ..LATE
+        },
+        Shape {
+            headers: &["x"],
+            paths: &["~/aaaa"],
+            ..EARLY
+        },
+    ),
+    (
+        "a regex path",
+        Shape {
+            paths: &["~/a"],
+            regex_priority: -7,
+            ..LATE
+        },
+        Shape {
+            paths: &["/aaaa"],
+            regex_priority: 7,
+            ..EARLY
+        },
+    ),
+    (
+        "the higher priority",
+        Shape {
+            paths: &["~/a"],
+            regex_priority: -1,
+            ..LATE
+        },
+        Shape {
+            paths: &["~/aaaa"],
+            regex_priority: -2,
+            ..EARLY
+        },
+    ),
+    (
+        "the longer path",
+        Shape {
+            paths: &["/a", "/abc"],
+            ..LATE
+        },
+        Shape {
+            paths: &["/ab", "/cd"],
+            ..EARLY
+        },
+    ),
+    (
+        "the earlier creation, where the lengths without a tilde tie",
+        Shape {
+            paths: &["~/a", "/abc"],
+            created_at: 1,
+            ..LATE
+        },
+        Shape {
+            paths: &["~/abc"],
+            created_at: 2,
+            ..EARLY
+        },
+    ),
+    (
+        "the smaller id, where the priority of plain paths has no effect",
+        Shape {
+            id: 1,
+            paths: &["/a"],
+            regex_priority: 1,
+            ..EARLY
+        },
+        Shape {
+            id: 2,
+            paths: &["/a"],
+            regex_priority: 2,
+            ..EARLY
+        },
+    ),
+];
+
+/// An id, in the order of its last byte.
+pub fn id(last: u8) -> Id {
+    Id::from_drawn([0, 0, 0, 0, 0, 0, 0, 0, 0, 0, 0, 0, 0, 0, 0, last])
+}
+
+fn texts(alloc: Global, texts: &[&str]) -> Result<List<Text>, NoMemory> {
+    let mut list = List::new(alloc);
+    for text in texts {
+        list.push(Text::from_str(alloc, text)?)?;
+    }
+    Ok(list)
+}
+
+/// The route of a shape. Each header is asked for with the value `on`.
+pub fn route(alloc: Global, shape: Shape<'_>) -> Result<Route, Fail> {
+    let mut headers = List::new(alloc);
+    for header in shape.headers {
+        headers.push(HeaderTest {
+            name: Name::of(alloc, header.as_bytes())?,
+            values: texts(alloc, &["on"])?,
+        })?;
+    }
+    Ok(Route {
+        id: id(shape.id),
+        name: None,
+        service: id(shape.service),
+        https: true,
+        methods: texts(alloc, shape.methods)?,
+        hosts: texts(alloc, shape.hosts)?,
+        paths: texts(alloc, shape.paths)?,
+        headers,
+        regex_priority: shape.regex_priority,
+        strip_path: true,
+        preserve_host: false,
+        created_at: shape.created_at,
+        updated_at: shape.created_at,
+    })
+}
+
+/// Routes of these shapes.
+pub fn routes(alloc: Global, shapes: &[Shape<'_>]) -> Result<List<Route>, Fail> {
+    let mut routes = List::new(alloc);
+    for shape in shapes {
+        routes.push(route(alloc, *shape)?)?;
+    }
+    Ok(routes)
+}
+
+fn service(alloc: Global, last: u8, enabled: bool) -> Result<Service, NoMemory> {
+    Ok(Service {
+        id: id(last),
+        name: None,
+        host: Text::from_str(alloc, "s.example")?,
+        port: 80,
+        path: None,
+        retries: 5,
+        enabled,
+        created_at: 0,
+        updated_at: 0,
+    })
+}
+
+/// Two services: 1, which is enabled, and 2, which isn't.
+pub fn services(alloc: Global) -> Result<List<Service>, NoMemory> {
+    let mut services = List::new(alloc);
+    services.push(service(alloc, 1, true)?)?;
+    services.push(service(alloc, 2, false)?)?;
+    Ok(services)
+}
+
+/// A GET of this path, with this Host.
+pub fn request(alloc: Global, host: &str, path: &str) -> Result<Request, NoMemory> {
+    Ok(Request {
+        method: Bytes::from_slice(alloc, b"GET")?,
+        path: Text::from_str(alloc, path)?,
+        query: None,
+        minor: 1,
+        host: Bytes::from_slice(alloc, host.as_bytes())?,
+        headers: Headers::new(alloc),
+        body: Bytes::new(alloc),
+        framed: false,
+        address: [127, 0, 0, 1],
+    })
+}
