@@ -1,6 +1,9 @@
 pub mod Escapes
+pub mod Hosts
+pub mod ListChanges
 pub mod Names
 pub mod Paths
+pub mod Queries
 pub mod Reading
 pub mod SameBytes
 pub mod Segments

@@ -1,27 +1,33 @@
-//! The texts and lists that the whole gateway shares: header names, paths in normal form, and the
-//! errors of reading them.
+//! The texts and lists that the whole gateway shares: header names, paths in normal form, hosts,
+//! queries, and the errors of reading them.
 //!
 //! Everything here is a function of bytes. Nothing does IO, and what takes memory says so.
 #![tactic(auto)]
 
 mod bytes;
+mod clone;
 mod copy;
 mod error;
 mod escape;
+mod host;
 mod list;
 mod name;
 mod pair;
 mod path;
+mod query;
 mod segment;
 mod text;
 
 pub use crate::bytes::Bytes;
+pub use crate::clone::TryClone;
 pub use crate::copy::CopyKey;
 pub use crate::error::{NoMemory, TextError};
+pub use crate::host::{host_of, host_part, is_host};
 pub use crate::list::List;
 pub use crate::name::Name;
 pub use crate::pair::Pair;
-pub use crate::path::{is_normal, normalise};
+pub use crate::path::{is_normal, is_path, normalise};
+pub use crate::query::{query_pairs, query_text};
 pub use crate::text::Text;
 
 #[cfg(test)]

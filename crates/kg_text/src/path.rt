@@ -37,7 +37,8 @@ pub fn is_normal(path: &[u8]) -> bool
     is_path(path) && has_normal_escapes(path) && is_dot_free(path)
 }
 
-fn is_path(path: &[u8]) -> bool
+/// Does the text begin with `/`, and are its further bytes 0x21 to 0x7E without `?` and `#`?
+pub fn is_path(path: &[u8]) -> bool
     ensures { result ≡ is_path path.now }
 {
     begins_with_slash(path) && are_path_bytes(path)

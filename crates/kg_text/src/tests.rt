@@ -1,6 +1,9 @@
 ghost use Rattle.std.specs.Prelude.{◌≡◌, [], ◌∷◌, IfOk};
 
-use crate::{Bytes, CopyKey, List, Name, NoMemory, Pair, Text, TextError, is_normal, normalise};
+use crate::{
+    Bytes, CopyKey, List, Name, NoMemory, Pair, Text, TextError, TryClone, host_of, is_host,
+    is_normal, is_path, normalise, query_pairs, query_text,
+};
 use std::alloc::Global;
 use std::test::Fail;
 
@@ -96,6 +99,82 @@ fn answers_are_given_with_ample_memory(rt: HostRuntime) -> Result<(), Fail> {
         value: Text::new(alloc),
     };
     assert!(rt; pair.name.as_str() == "a" && pair.value.is_empty());
+    Ok(())
+}
+
+#[test]
+fn members_are_set_kept_and_copied(rt: HostRuntime) -> Result<(), Fail> {
+    let mut list = list_of(rt.alloc(), 1u32, 2)?;
+    list.set(0, 3);
+    list.push(4)?;
+    list.retain(|item| *item != 2);
+    assert!(rt; list.as_slice() == [3, 4].as_slice());
+    Ok(())
+}
+
+fn clone_of<T: TryClone>(alloc: Global, value: &T) -> Result<T, NoMemory>
+    ensures { IfOk result (λ copy. copy ≡ value.now) }
+{
+    value.try_clone(alloc)
+}
+
+#[test]
+fn copies_equal_their_source(rt: HostRuntime) -> Result<(), Fail> {
+    let alloc = rt.alloc();
+    let names = list_of(alloc, Name::of(alloc, b"a")?, Name::of(alloc, b"b")?)?;
+    assert!(rt; clone_of(alloc, &names)? == names);
+    let texts = list_of(alloc, Some(Text::from_str(alloc, "c")?), None)?;
+    assert!(rt; clone_of(alloc, &texts)? == texts);
+    let bytes = Bytes::from_slice(alloc, b"d")?;
+    assert!(rt; clone_of(alloc, &bytes)? == bytes);
+    Ok(())
+}
+
+#[test]
+fn hosts_have_no_port_and_no_case(rt: HostRuntime) -> Result<(), Fail> {
+    for (value, host) in [
+        ("Shop.Example:8080", "shop.example"),
+        ("shop.example:", "shop.example"),
+        ("shop.example", "shop.example"),
+        ("a:b:1", "a:b"),
+        ("a:b", "a:b"),
+        ("a1", "a1"),
+        (":80", ""),
+        ("80", "80"),
+        ("", ""),
+    ] {
+        let found = host_of(rt.alloc(), value.as_bytes())?;
+        assert!(rt; found.as_slice() == host.as_bytes(), "{value}");
+    }
+    assert!(rt; is_host(b"a-1_b.Example") && !is_host(b"") && !is_host(b"a:80"));
+    assert!(rt; is_path(b"/a//b") && !is_path(b"a") && !is_path(b"/a?b"));
+    Ok(())
+}
+
+// The text that is written for the pairs that are read.
+fn rewritten(alloc: Global, query: &str) -> Result<Bytes, NoMemory> {
+    query_text(alloc, &query_pairs(alloc, query.as_bytes())?)
+}
+
+#[test]
+fn queries_are_read_and_written_as_forms(rt: HostRuntime) -> Result<(), Fail> {
+    for (query, text) in [
+        ("a=1&b=x+y", "a=1&b=x+y"),
+        ("&a&&b=1=2&", "a=&b=1%3D2"),
+        ("%61=%c3%a9%zz", "a=%C3%A9%25zz"),
+        ("a=%FF", "a=%EF%BF%BD"),
+        ("", ""),
+    ] {
+        let written = rewritten(rt.alloc(), query)?;
+        assert!(rt; written.as_slice() == text.as_bytes(), "{query}");
+    }
+    let pairs = query_pairs(rt.alloc(), b"a=1&b=x+y")?;
+    assert_eq!(rt; pairs.len(), 2);
+    assert!(rt;
+        pairs
+            .get(1)
+            .is_some_and(|pair| pair.value.as_str() == "x y")
+    );
     Ok(())
 }
 

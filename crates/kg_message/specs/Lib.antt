@@ -1,0 +1,4 @@
+pub mod CommaLists
+pub mod GatewayMessage
+pub mod HeaderLists
+pub mod HopByHop
