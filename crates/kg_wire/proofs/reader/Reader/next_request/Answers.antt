@@ -1,0 +1,23 @@
+use Rattle.std.proofs.Common.{Err}
+use Rattle.kg_wire.proofs.NextLemmas.{reads_request, reads_end}
+use Rattle.kg_wire.proofs.reader.Reader.next_request.Goals as goal
+
+pub returns-in-Err-clause-reads : goal.returns-in-Err-clause-reads
+returns-in-Err-clause-reads g c = λ m rest none is ahead.
+    reads_request (Err c.in-Err.error) c.args.self.now c.read-result.new.self (g.S.Source.left c.args.source.now)
+    (g.S.Source.left c.read-result.new.source) m rest is ahead tt c.in-Err.ensures.err
+
+pub returns-in_default-result-clause-reads : goal.returns-in_default-result-clause-reads
+returns-in_default-result-clause-reads g c = λ m rest none is ahead.
+    reads_request c.read-result.result c.args.self.now c.read-result.new.self (g.S.Source.left c.args.source.now)
+    (g.S.Source.left c.read-result.new.source) m rest is ahead c.read-result.ensures.ok c.read-result.ensures.err
+
+pub returns-in-Err-clause-ended : goal.returns-in-Err-clause-ended
+returns-in-Err-clause-ended g c = λ none ahead.
+    reads_end (Err c.in-Err.error) c.args.self.now c.read-result.new.self (g.S.Source.left c.args.source.now)
+    (g.S.Source.left c.read-result.new.source) ahead tt c.in-Err.ensures.err
+
+pub returns-in_default-result-clause-ended : goal.returns-in_default-result-clause-ended
+returns-in_default-result-clause-ended g c = λ none ahead.
+    reads_end c.read-result.result c.args.self.now c.read-result.new.self (g.S.Source.left c.args.source.now)
+    (g.S.Source.left c.read-result.new.source) ahead c.read-result.ensures.ok c.read-result.ensures.err

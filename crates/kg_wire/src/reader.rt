@@ -1,0 +1,306 @@
+//! Reading the requests of a connection, one after another.
+
+ghost use Rattle.std.specs.Prelude.{◌≡◌, ◌≤◌, ◌<◌, ◌↔◌, List, ℕ, [], ◌++◌, Option, Some, None, Ok, Err, IfOk, OnOk, IfErr, OnErr, IsErrOf, length};
+ghost use Rattle.kg_outside.specs.Causes.{Rose};
+ghost use Rattle.kg_outside.specs.Moves.{with_front};
+ghost use Rattle.kg_wire.specs.Messages.{most_head, Message, print_message, request_of, IsRequest};
+ghost use Rattle.kg_wire.specs.Reading.{Grows, FillsLine, FindsHead, FindsStart, IsStart, Takes, Gives, Ends, IsUnlessKept, error_of};
+ghost use Rattle.kg_wire.specs.declared.held.FillError.{FillError as FillFailure};
+ghost use Rattle.kg_wire.specs.declared.reader.ReadError.{ReadError as AnError};
+ghost use Rattle.kg_wire.specs.declared.reader.ReadError.TheVariants.{NoMemory as OutOfMemory};
+
+use crate::checks::body_len;
+use crate::head::{Head, copy_head, make_request};
+use crate::held::{FillError, Held};
+use crate::judge::{FIRST_FIELDS, Judged, MOST_HEAD, judge};
+use httparse::spans::{EMPTY_HEADER_SPAN, HeaderSpan, RequestSpans};
+use kg_message::Request;
+use kg_outside::Source;
+use kg_text::{Bytes, NoMemory};
+use std::alloc::Global;
+use std::marker::Model;
+
+/// The length of the longest body, in bytes.
+const MOST_BODY: u64 = 8_388_608;
+
+/// Why the next request of a connection could not be had. Each later call answers the same.
+#[derive(Clone, Copy, Debug, PartialEq, Eq, Hash)]
+pub enum ReadError {
+    /// No request begins here, whatever follows. `at` counts the bytes of the requests before.
+    Bad { at: u64 },
+    /// The head is longer than 65,536 bytes. It isn't answered yet: `Bad` is.
+    HeadTooLarge,
+    /// The body is longer than 8,388,608 bytes. It isn't answered yet: `Bad` is.
+    BodyTooLarge,
+    /// The source ended inside a request, of which there are `have` bytes.
+    Cut { have: u64 },
+    /// The source failed.
+    ReadFault,
+    /// There was no memory. Bytes may be lost.
+    NoMemory,
+}
+
+impl From<FillError> for ReadError {
+    ghost from_gives = { λ f e. e ≡ error_of f };
+
+    fn from(error: FillError) -> ReadError {
+        match error {
+            FillError::Fault => ReadError::ReadFault,
+            FillError::NoMemory => ReadError::NoMemory,
+        }
+    }
+}
+
+impl From<NoMemory> for ReadError {
+    ghost from_gives = { λ _ e. e ≡ OutOfMemory };
+
+    fn from(_: NoMemory) -> ReadError {
+        ReadError::NoMemory
+    }
+}
+
+/// The start of a message: its head, which passes all checks.
+#[derive(Debug, Drop)]
+pub struct Start {
+    pub head: Head,
+    /// In bytes.
+    pub head_len: usize,
+    /// Of the head and the body, in bytes.
+    pub message_len: usize,
+}
+
+/// Reads the requests of a connection, one after another. Contracts see what it holds, where it is,
+/// the error that it ended with, and the client's address.
+#[derive(Drop)]
+pub struct Reader {
+    held: Held,
+    // Where the fields of a head are put.
+    room: Vec<HeaderSpan>,
+    at: u64,
+    error: Option<ReadError>,
+    address: [u8; 4],
+}
+
+impl Model for Reader {
+    ghost use Rattle.kg_wire.specs.Reading.{ReaderState};
+
+    ghost Value = { ReaderState };
+
+    ghost view = { λ r. record { held = r.held; at = r.at; error = r.error; address = r.address } };
+}
+
+impl Reader {
+    /// A reader at the beginning of a connection. `address` is the client's IPv4 address.
+    pub fn new(alloc: Global, address: [u8; 4]) -> Result<Reader, NoMemory>
+        ensures { IfOk result (λ reader. reader ≡ record { held = []; at = 0; error = None; address = address }) }
+    {
+        Ok(Reader {
+            held: Held::new(alloc),
+            room: vec![in alloc; EMPTY_HEADER_SPAN; FIRST_FIELDS]?,
+            at: 0,
+            error: None,
+            address,
+        })
+    }
+
+    /// Reads the next request. `None` is the end of the connection: the source ended where no request
+    /// had begun. After an error each later call answers the same and reads nothing.
+    pub fn next_request<S: Source>(
+        &mut self,
+        alloc: Global,
+        source: &mut S,
+    ) -> Result<Option<Request>, ReadError>
+        ensures ok { IfOk result (Gives self.old self.new (S.left source.old) (S.left source.new)) }
+        ensures err { self.old.error ≡ None → IfErr result (Ends self.old.at self.old.held self.new.held (S.left source.old) (S.left source.new)) }
+        ensures reads { (m : Message) (rest : List ℕ) → self.old.error ≡ None → IsRequest m
+            → with_front self.old.held (S.left source.old) ≡ Some (print_message m ++ rest)
+            → IsUnlessKept result (Some (request_of self.old.address m)) }
+        ensures ended { self.old.error ≡ None → with_front self.old.held (S.left source.old) ≡ Some [] → IsUnlessKept result None }
+        ensures again { (e : AnError) → self.old.error ≡ Some e → (result ≡ Err e) × (self.new ≡ self.old) × (source.new ≡ source.old) }
+        ensures stays { IfErr result (λ e. self.new.error ≡ Some e) }
+        ensures fresh { OnOk result (self.new.error ≡ None) }
+        ensures address { self.new.address ≡ self.old.address }
+        ensures kept { OnOk result (S.faults source.new ≡ S.faults source.old) }
+        ensures beside { S.beside source.new ≡ S.beside source.old }
+        ensures read { self.old.error ≡ None → IsErrOf result AnError.ReadFault → Rose (S.faults source.old) (S.faults source.new) }
+    {
+        if let Some(error) = self.error {
+            return Err(error);
+        }
+        let result = self.read(alloc, source);
+        if let Err(error) = result {
+            self.error = Some(error);
+        }
+        result
+    }
+
+    fn read<S: Source>(
+        &mut self,
+        alloc: Global,
+        source: &mut S,
+    ) -> Result<Option<Request>, ReadError>
+        ensures ok { IfOk result (Gives self.old self.new (S.left source.old) (S.left source.new)) }
+        ensures err { IfErr result (Ends self.old.at self.old.held self.new.held (S.left source.old) (S.left source.new)) }
+        ensures error { self.new.error ≡ self.old.error }
+        ensures address { self.new.address ≡ self.old.address }
+        ensures kept { OnOk result (S.faults source.new ≡ S.faults source.old) }
+        ensures beside { S.beside source.new ≡ S.beside source.old }
+        ensures read { IsErrOf result AnError.ReadFault → Rose (S.faults source.old) (S.faults source.new) }
+    {
+        match next_head(alloc, source, &mut self.held, &mut self.room, self.at)? {
+            Some(start) => Ok(Some(self.take_request(alloc, source, start)?)),
+            None => Ok(None),
+        }
+    }
+
+    // Takes the message that begins here, once all of it is held.
+    fn take_request<S: Source>(
+        &mut self,
+        alloc: Global,
+        source: &mut S,
+        start: Start,
+    ) -> Result<Request, ReadError>
+        requires { IsStart self.old.held start }
+        ensures ok { IfOk result (Takes self.old self.new (S.left source.old) (S.left source.new)) }
+        ensures err { IfErr result (Ends self.old.at self.old.held self.new.held (S.left source.old) (S.left source.new)) }
+        ensures error { self.new.error ≡ self.old.error }
+        ensures address { self.new.address ≡ self.old.address }
+        ensures kept { OnOk result (S.faults source.new ≡ S.faults source.old) }
+        ensures beside { S.beside source.new ≡ S.beside source.old }
+        ensures read { IsErrOf result AnError.ReadFault → Rose (S.faults source.old) (S.faults source.new) }
+    {
+        fill_message(source, &mut self.held, &start, self.at)?;
+        let at = match self.at.checked_add(start.message_len as u64) {
+            Some(at) => at,
+            None => return Err(ReadError::NoMemory),
+        };
+        let message = self.held.as_slice().split_at(start.message_len).0;
+        let body = Bytes::from_slice(alloc, message.split_at(start.head_len).1)?;
+        let request = make_request(alloc, start.head, body, self.address)?;
+        self.held.take(start.message_len);
+        self.at = at;
+        Ok(request)
+    }
+}
+
+// Reads on until more can be told of a head: a piece with a line feed came, as many bytes are held as
+// the longest head has, or the source ended. Answers whether it ended.
+fn fill_line<S: Source>(source: &mut S, held: &mut Held) -> Result<bool, FillError>
+    requires { length held.old < most_head }
+    ensures ok { IfOk result (FillsLine held.old held.new (S.left source.old) (S.left source.new)) }
+    ensures err { OnErr result (Grows held.old held.new (S.left source.old) (S.left source.new)) }
+    ensures kept { OnOk result (S.faults source.new ≡ S.faults source.old) }
+    ensures beside { S.beside source.new ≡ S.beside source.old }
+    ensures read { IsErrOf result FillFailure.Fault → Rose (S.faults source.old) (S.faults source.new) }
+{
+    while held.len() < MOST_HEAD {
+        let before = held.len();
+        if held.fill(source)? == 0 {
+            return Ok(true);
+        }
+        if held.as_slice().split_at(before).1.contains(&b'\n') {
+            return Ok(false);
+        }
+    }
+    Ok(false)
+}
+
+// Reads until a whole head is held. `None`: the source ended where no message had begun.
+fn find_head<S: Source>(
+    source: &mut S,
+    held: &mut Held,
+    room: &mut Vec<HeaderSpan>,
+    at: u64,
+) -> Result<Option<RequestSpans>, ReadError>
+    ensures ok { IfOk result (FindsHead held.old held.new room.new.items (S.left source.old) (S.left source.new)) }
+    ensures err { IfErr result (Ends at held.old held.new (S.left source.old) (S.left source.new)) }
+    ensures kept { OnOk result (S.faults source.new ≡ S.faults source.old) }
+    ensures beside { S.beside source.new ≡ S.beside source.old }
+    ensures read { IsErrOf result AnError.ReadFault → Rose (S.faults source.old) (S.faults source.new) }
+{
+    let mut ended = false;
+    loop {
+        match judge(held.as_slice(), room)? {
+            Judged::Whole(spans) => return Ok(Some(spans)),
+            Judged::Never => return Err(ReadError::Bad { at }),
+            Judged::Open => {}
+        }
+        if ended {
+            return nothing_whole(held);
+        }
+        ended = fill_line(source, held)?;
+    }
+}
+
+// What the end of the source says of bytes that have no whole head.
+fn nothing_whole(held: &Held) -> Result<Option<RequestSpans>, ReadError>
+    ensures none { OnOk result ((result ≡ Ok None) × (held.now ≡ [])) }
+    ensures cut { IfErr result (λ e. (e ≡ AnError.Cut (length held.now)) × (0 < length held.now)) }
+{
+    let have = held.len();
+    if have == 0 {
+        return Ok(None);
+    }
+    Err(ReadError::Cut { have: have as u64 })
+}
+
+// Reads until the head of the next message is held, and checks it. `None`: the source ended where no
+// message had begun.
+fn next_head<S: Source>(
+    alloc: Global,
+    source: &mut S,
+    held: &mut Held,
+    room: &mut Vec<HeaderSpan>,
+    at: u64,
+) -> Result<Option<Start>, ReadError>
+    ensures ok { IfOk result (FindsStart held.old held.new (S.left source.old) (S.left source.new)) }
+    ensures err { IfErr result (Ends at held.old held.new (S.left source.old) (S.left source.new)) }
+    ensures kept { OnOk result (S.faults source.new ≡ S.faults source.old) }
+    ensures beside { S.beside source.new ≡ S.beside source.old }
+    ensures read { IsErrOf result AnError.ReadFault → Rose (S.faults source.old) (S.faults source.new) }
+{
+    let spans = match find_head(source, held, room, at)? {
+        Some(spans) => spans,
+        None => return Ok(None),
+    };
+    let head = copy_head(alloc, held.as_slice(), room.as_slice(), &spans)?;
+    let body_len = match body_len(&head) {
+        Some(body_len) => body_len,
+        None => return Err(ReadError::Bad { at }),
+    };
+    if body_len > MOST_BODY {
+        return Err(ReadError::Bad { at });
+    }
+    Ok(Some(Start {
+        head,
+        head_len: spans.len,
+        message_len: spans.len + body_len as usize,
+    }))
+}
+
+// Reads until the whole message is held.
+fn fill_message<S: Source>(
+    source: &mut S,
+    held: &mut Held,
+    start: &Start,
+    at: u64,
+) -> Result<(), ReadError>
+    requires { IsStart held.old start.now }
+    ensures ok { OnOk result (Grows held.old held.new (S.left source.old) (S.left source.new)) }
+    ensures whole { OnOk result (start.now.message_len ≤ length held.new) }
+    ensures err { IfErr result (Ends at held.old held.new (S.left source.old) (S.left source.new)) }
+    ensures kept { OnOk result (S.faults source.new ≡ S.faults source.old) }
+    ensures beside { S.beside source.new ≡ S.beside source.old }
+    ensures read { IsErrOf result AnError.ReadFault → Rose (S.faults source.old) (S.faults source.new) }
+{
+    while held.len() < start.message_len {
+        if held.fill(source)? == 0 {
+            let have = held.len() as u64;
+            return Err(ReadError::Cut { have });
+        }
+    }
+    Ok(())
+}
+
+#[cfg(test)]
+mod tests;
