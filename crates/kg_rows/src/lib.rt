@@ -9,6 +9,7 @@ mod candidates;
 mod change;
 mod command;
 mod generations;
+mod laws;
 mod same;
 mod select;
 mod touched;
@@ -18,6 +19,10 @@ mod watch;
 pub use crate::admit::allowed;
 pub use crate::change::apply;
 pub use crate::command::Command;
+pub use crate::laws::last_command_changes_what_differs;
 pub use crate::select::{Parent, Select};
 pub use crate::touched::Touched;
 pub use crate::value::value_of;
+
+#[cfg(test)]
+mod tests;
