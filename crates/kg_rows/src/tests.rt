@@ -171,3 +171,26 @@ fn commands_that_break_the_rows_are_not_allowed(rt: HostRuntime) -> Result<(), F
     assert!(rt; allowed(&rows, &more, 2) && !allowed(&rows, &more, 1));
     Ok(())
 }
+
+#[test]
+fn rows_are_selected_by_id_and_by_word(rt: HostRuntime) -> Result<(), Fail> {
+    let alloc = rt.alloc();
+    let rows = alice(alloc)?;
+    for (kind, word, there) in [
+        (Kind::Consumer, "alice", true),
+        (Kind::Consumer, "bob", false),
+        (Kind::KeyCred, "k1", true),
+        (Kind::KeyCred, "00000000-0000-4000-8000-000000000005", true),
+        (Kind::Plugin, "cors", false),
+    ] {
+        let select = Select::Word(text(alloc, word)?);
+        assert_eq!(rt;
+            selected(alloc, &rows, kind, &select)?.is_some(),
+            there,
+            "{word}"
+        );
+    }
+    let found = selected(alloc, &rows, Kind::KeyCred, &Select::Id(id(5)))?;
+    assert!(rt; found == Some(cred(alloc, 5, 3, "k1")?));
+    Ok(())
+}
