@@ -1,3 +1,4 @@
+pub mod Accepted
 pub mod BrokenRules
 pub mod Choices
 pub mod FieldTables

@@ -20,6 +20,7 @@ mod url;
 mod word;
 
 pub use crate::fault::Broken;
+pub use crate::fields::members_of_a_faultless_object_are_accepted;
 pub use crate::form::{Form, FormError, read_form};
 pub use crate::reference::Reference;
 pub use crate::rule::Rule;
