@@ -10,7 +10,6 @@ use Rattle.serde_json.specs.Find.{get_member}
 use Rattle.kg_schema.specs.Accepted.{AcceptsMembers, IsAccepted}
 use Rattle.kg_schema.specs.BrokenRules.{faults_in, faults_inside, field_rule, told}
 use Rattle.kg_schema.specs.FieldTables.{field_of}
-use Rattle.kg_schema.specs.Rules.{Fault}
 use Rattle.kg_schema.specs.declared.rule.Rule.{Rule}
 use Rattle.kg_schema.specs.declared.table.Table.{Table}
 
