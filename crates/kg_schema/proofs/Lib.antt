@@ -1,3 +1,4 @@
+mod AcceptedLemmas
 mod DistinctTexts
 mod InsideLemmas
 mod ItemLemmas

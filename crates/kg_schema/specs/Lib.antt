@@ -1,3 +1,4 @@
+pub mod Accepted
 pub mod Bases
 pub mod Between
 pub mod BrokenRules

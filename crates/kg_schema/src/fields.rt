@@ -3,6 +3,7 @@
 ghost use Rattle.std.specs.Prelude.{◌≡◌, ◌+◌, ◌++◌, IfOk, IfSome, OnOk, fold};
 ghost use Rattle.serde_json.specs.View.{members_view, view};
 ghost use Rattle.kg_entities.specs.PluginNames.{plugin_named};
+ghost use Rattle.kg_schema.specs.Accepted.{AcceptsMembers};
 ghost use Rattle.kg_schema.specs.BrokenRules.{faults_in, faults_inside, field_faults, field_rule, named_plugin, object_rule, table_inside, told};
 ghost use Rattle.kg_schema.specs.FieldTables.{depth_of, levels};
 ghost use Rattle.kg_schema.specs.Rules.{in_order, tell};
@@ -169,3 +170,8 @@ fn object_rule(value: &Value) -> Option<Rule>
         None
     }
 }
+
+/// Each member of an object without faults is accepted, by itself and inside: a law, for proofs.
+pub fn members_of_a_faultless_object_are_accepted()
+    ensures { AcceptsMembers }
+{}

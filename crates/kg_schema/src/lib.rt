@@ -24,6 +24,7 @@ mod word;
 
 pub use crate::base::{Base, Links, ParentField};
 pub use crate::fault::Broken;
+pub use crate::fields::members_of_a_faultless_object_are_accepted;
 pub use crate::form::{Form, FormError, read_form};
 pub use crate::reference::Reference;
 pub use crate::row::{finish, finish_under};

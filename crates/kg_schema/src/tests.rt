@@ -3,6 +3,7 @@
 mod configs;
 mod plugins;
 mod rows;
+mod settings;
 
 use crate::fault::Broken;
 use crate::form::{FormError, read_form};
