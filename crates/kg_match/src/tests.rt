@@ -165,16 +165,12 @@ fn methods_are_equal_bytes(rt: HostRuntime) -> Result<(), Fail> {
 #[test]
 fn first_bad_pattern_is_told(rt: HostRuntime) -> Result<(), Fail> {
     let alloc = rt.alloc();
-    for (paths, want) in [
-        (["/(", "~/a", "~/(", "~["].as_slice(), BuildError::BadPattern { index: 2 }),
-        // A pattern, but one that is too big to compile.
-        (["~a{1000}{1000}{1000}"].as_slice(), BuildError::NoMemory),
-    ] {
-        let route = route(alloc, &[], &[], &[], paths)?;
-        match RouteTest::build(alloc, &route) {
-            Ok(_) => return Err(Fail::from("the route is taken")),
-            Err(error) => assert_eq!(rt; error, want, "{paths:?}"),
+    let route = route(alloc, &[], &[], &[], &["/(", "~/a", "~/(", "~["])?;
+    match RouteTest::build(alloc, &route) {
+        Ok(_) => Err(Fail::from("the route is taken")),
+        Err(error) => {
+            assert_eq!(rt; error, BuildError::BadPattern { index: 2 });
+            Ok(())
         }
     }
-    Ok(())
 }
