@@ -83,6 +83,7 @@ without_plugins_of kind id rows = record rows { plugins = filter (λ plugin. not
 -- the rows without the credentials and the groups of a consumer
 abbrev pub without_credentials_of : ℕ → RowLists → RowLists
 without_credentials_of id rows = record rows {
-    key_creds = filter (λ row. not (row.consumer == id)) rows.key_creds;
-    basic_creds = filter (λ row. not (row.consumer == id)) rows.basic_creds;
-    acls = filter (λ row. not (row.consumer == id)) rows.acls }
+  key_creds = filter (λ row. not (row.consumer == id)) rows.key_creds;
+  basic_creds = filter (λ row. not (row.consumer == id)) rows.basic_creds;
+  acls = filter (λ row. not (row.consumer == id)) rows.acls;
+}

@@ -20,10 +20,11 @@ pub record RowLists : Type 0 where
 -- no rows of any kind
 abbrev pub no_rows : RowLists
 no_rows = record {
-    services = [];
-    routes = [];
-    consumers = [];
-    key_creds = [];
-    basic_creds = [];
-    acls = [];
-    plugins = [] }
+  services = [];
+  routes = [];
+  consumers = [];
+  key_creds = [];
+  basic_creds = [];
+  acls = [];
+  plugins = [];
+}

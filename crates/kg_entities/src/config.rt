@@ -4,7 +4,8 @@ ghost use Rattle.std.specs.Prelude.{◌≡◌};
 ghost use Rattle.kg_entities.specs.PluginNames.{plugin_of};
 
 use crate::plugin::PluginName;
-use kg_text::{List, Text};
+use kg_text::{List, NoMemory, Text, TryClone};
+use std::alloc::Global;
 
 /// The config of one plugin.
 #[derive(Debug, PartialEq, Drop)]
@@ -41,6 +42,31 @@ impl Config {
     }
 }
 
+impl TryClone for Config {
+    fn try_clone(&self, alloc: Global) -> Result<Config, NoMemory> {
+        match self {
+            Config::Cors(config) => Ok(Config::Cors(config.try_clone(alloc)?)),
+            Config::KeyAuth(config) => Ok(Config::KeyAuth(config.try_clone(alloc)?)),
+            Config::BasicAuth(config) => Ok(Config::BasicAuth(config.try_clone(alloc)?)),
+            Config::IpRestriction(config) => Ok(Config::IpRestriction(config.try_clone(alloc)?)),
+            Config::RequestSizeLimiting(config) => Ok(Config::RequestSizeLimiting(config.try_clone(
+                alloc,
+            )?)),
+            Config::Acl(config) => Ok(Config::Acl(config.try_clone(alloc)?)),
+            Config::RateLimiting(config) => Ok(Config::RateLimiting(config.try_clone(alloc)?)),
+            Config::RequestTransformer(config) => Ok(Config::RequestTransformer(config.try_clone(
+                alloc,
+            )?)),
+            Config::ResponseTransformer(config) => Ok(Config::ResponseTransformer(config.try_clone(
+                alloc,
+            )?)),
+            Config::RequestTermination(config) => Ok(Config::RequestTermination(config.try_clone(
+                alloc,
+            )?)),
+        }
+    }
+}
+
 /// Which other origins may read the replies (Kong's plugin cors).
 #[derive(Debug, PartialEq, Drop)]
 pub struct Cors {
@@ -56,6 +82,20 @@ pub struct Cors {
     pub preflight_continue: bool,
 }
 
+impl TryClone for Cors {
+    fn try_clone(&self, alloc: Global) -> Result<Cors, NoMemory> {
+        Ok(Cors {
+            origins: self.origins.try_clone(alloc)?,
+            methods: self.methods.try_clone(alloc)?,
+            headers: self.headers.try_clone(alloc)?,
+            exposed_headers: self.exposed_headers.try_clone(alloc)?,
+            credentials: self.credentials,
+            max_age: self.max_age,
+            preflight_continue: self.preflight_continue,
+        })
+    }
+}
+
 /// Where a request's key stands (Kong's plugin key-auth).
 #[derive(Debug, PartialEq, Drop)]
 pub struct KeyAuth {
@@ -68,6 +108,18 @@ pub struct KeyAuth {
     pub anonymous: Option<Text>,
 }
 
+impl TryClone for KeyAuth {
+    fn try_clone(&self, alloc: Global) -> Result<KeyAuth, NoMemory> {
+        Ok(KeyAuth {
+            key_names: self.key_names.try_clone(alloc)?,
+            key_in_header: self.key_in_header,
+            key_in_query: self.key_in_query,
+            hide_credentials: self.hide_credentials,
+            anonymous: self.anonymous.try_clone(alloc)?,
+        })
+    }
+}
+
 /// How names and passwords are asked for (Kong's plugin basic-auth).
 #[derive(Debug, PartialEq, Drop)]
 pub struct BasicAuth {
@@ -76,11 +128,29 @@ pub struct BasicAuth {
     pub anonymous: Option<Text>,
 }
 
+impl TryClone for BasicAuth {
+    fn try_clone(&self, alloc: Global) -> Result<BasicAuth, NoMemory> {
+        Ok(BasicAuth {
+            hide_credentials: self.hide_credentials,
+            anonymous: self.anonymous.try_clone(alloc)?,
+        })
+    }
+}
+
 /// Which addresses may send requests (Kong's plugin ip-restriction): IPv4 addresses or blocks.
 #[derive(Debug, PartialEq, Drop)]
 pub struct IpRestriction {
     pub allow: List<Text>,
     pub deny: List<Text>,
+}
+
+impl TryClone for IpRestriction {
+    fn try_clone(&self, alloc: Global) -> Result<IpRestriction, NoMemory> {
+        Ok(IpRestriction {
+            allow: self.allow.try_clone(alloc)?,
+            deny: self.deny.try_clone(alloc)?,
+        })
+    }
 }
 
 /// What a size is counted in.
@@ -101,12 +171,31 @@ pub struct SizeLimit {
     pub size_unit: SizeUnit,
 }
 
+impl TryClone for SizeLimit {
+    fn try_clone(&self, alloc: Global) -> Result<SizeLimit, NoMemory> {
+        Ok(SizeLimit {
+            allowed_payload_size: self.allowed_payload_size,
+            size_unit: self.size_unit,
+        })
+    }
+}
+
 /// Which groups may send requests (Kong's plugin acl). Exactly one of the lists is set.
 #[derive(Debug, PartialEq, Drop)]
 pub struct Acl {
     pub allow: List<Text>,
     pub deny: List<Text>,
     pub hide_groups_header: bool,
+}
+
+impl TryClone for Acl {
+    fn try_clone(&self, alloc: Global) -> Result<Acl, NoMemory> {
+        Ok(Acl {
+            allow: self.allow.try_clone(alloc)?,
+            deny: self.deny.try_clone(alloc)?,
+            hide_groups_header: self.hide_groups_header,
+        })
+    }
 }
 
 /// Whose requests are counted together.
@@ -129,11 +218,33 @@ pub struct RateLimiting {
     pub hide_client_headers: bool,
 }
 
+impl TryClone for RateLimiting {
+    fn try_clone(&self, alloc: Global) -> Result<RateLimiting, NoMemory> {
+        Ok(RateLimiting {
+            second: self.second,
+            minute: self.minute,
+            hour: self.hour,
+            day: self.day,
+            limit_by: self.limit_by,
+            hide_client_headers: self.hide_client_headers,
+        })
+    }
+}
+
 /// One step of a request's change: members `name` or `name:value`.
 #[derive(Debug, PartialEq, Drop)]
 pub struct Edits {
     pub headers: List<Text>,
     pub querystring: List<Text>,
+}
+
+impl TryClone for Edits {
+    fn try_clone(&self, alloc: Global) -> Result<Edits, NoMemory> {
+        Ok(Edits {
+            headers: self.headers.try_clone(alloc)?,
+            querystring: self.querystring.try_clone(alloc)?,
+        })
+    }
 }
 
 /// How requests are changed (Kong's plugin request-transformer).
@@ -146,6 +257,18 @@ pub struct RequestTransformer {
     pub append: Edits,
 }
 
+impl TryClone for RequestTransformer {
+    fn try_clone(&self, alloc: Global) -> Result<RequestTransformer, NoMemory> {
+        Ok(RequestTransformer {
+            remove: self.remove.try_clone(alloc)?,
+            rename: self.rename.try_clone(alloc)?,
+            replace: self.replace.try_clone(alloc)?,
+            add: self.add.try_clone(alloc)?,
+            append: self.append.try_clone(alloc)?,
+        })
+    }
+}
+
 /// How the headers of replies are changed (Kong's plugin response-transformer).
 #[derive(Debug, PartialEq, Drop)]
 pub struct ResponseTransformer {
@@ -154,6 +277,18 @@ pub struct ResponseTransformer {
     pub replace: List<Text>,
     pub add: List<Text>,
     pub append: List<Text>,
+}
+
+impl TryClone for ResponseTransformer {
+    fn try_clone(&self, alloc: Global) -> Result<ResponseTransformer, NoMemory> {
+        Ok(ResponseTransformer {
+            remove: self.remove.try_clone(alloc)?,
+            rename: self.rename.try_clone(alloc)?,
+            replace: self.replace.try_clone(alloc)?,
+            add: self.add.try_clone(alloc)?,
+            append: self.append.try_clone(alloc)?,
+        })
+    }
 }
 
 /// The reply that ends every request (Kong's plugin request-termination).
@@ -165,4 +300,15 @@ pub struct Termination {
     /// At most 65,536 bytes.
     pub body: Option<Text>,
     pub content_type: Option<Text>,
+}
+
+impl TryClone for Termination {
+    fn try_clone(&self, alloc: Global) -> Result<Termination, NoMemory> {
+        Ok(Termination {
+            status_code: self.status_code,
+            message: self.message.try_clone(alloc)?,
+            body: self.body.try_clone(alloc)?,
+            content_type: self.content_type.try_clone(alloc)?,
+        })
+    }
 }

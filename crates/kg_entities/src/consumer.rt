@@ -1,7 +1,8 @@
 //! Consumers, and what they are known by.
 
 use crate::id::Id;
-use kg_text::Text;
+use kg_text::{NoMemory, Text, TryClone};
+use std::alloc::Global;
 
 /// A consumer of the services (Kong Admin API, "Consumer"). At least one of the two texts is set.
 #[derive(Debug, PartialEq, Drop)]
@@ -16,6 +17,18 @@ pub struct Consumer {
     pub updated_at: u64,
 }
 
+impl TryClone for Consumer {
+    fn try_clone(&self, alloc: Global) -> Result<Consumer, NoMemory> {
+        Ok(Consumer {
+            id: self.id,
+            username: self.username.try_clone(alloc)?,
+            custom_id: self.custom_id.try_clone(alloc)?,
+            created_at: self.created_at,
+            updated_at: self.updated_at,
+        })
+    }
+}
+
 /// A key that tells a consumer (Kong's plugin key-auth).
 #[derive(Debug, PartialEq, Drop)]
 pub struct KeyCred {
@@ -24,6 +37,17 @@ pub struct KeyCred {
     pub key: Text,
     /// In seconds.
     pub created_at: u64,
+}
+
+impl TryClone for KeyCred {
+    fn try_clone(&self, alloc: Global) -> Result<KeyCred, NoMemory> {
+        Ok(KeyCred {
+            id: self.id,
+            consumer: self.consumer,
+            key: self.key.try_clone(alloc)?,
+            created_at: self.created_at,
+        })
+    }
 }
 
 /// A name and password that tell a consumer (Kong's plugin basic-auth).
@@ -38,6 +62,18 @@ pub struct BasicCred {
     pub created_at: u64,
 }
 
+impl TryClone for BasicCred {
+    fn try_clone(&self, alloc: Global) -> Result<BasicCred, NoMemory> {
+        Ok(BasicCred {
+            id: self.id,
+            consumer: self.consumer,
+            username: self.username.try_clone(alloc)?,
+            hash: self.hash.try_clone(alloc)?,
+            created_at: self.created_at,
+        })
+    }
+}
+
 /// A group that a consumer belongs to (Kong's plugin acl).
 #[derive(Debug, PartialEq, Drop)]
 pub struct AclRow {
@@ -46,4 +82,15 @@ pub struct AclRow {
     pub group: Text,
     /// In seconds.
     pub created_at: u64,
+}
+
+impl TryClone for AclRow {
+    fn try_clone(&self, alloc: Global) -> Result<AclRow, NoMemory> {
+        Ok(AclRow {
+            id: self.id,
+            consumer: self.consumer,
+            group: self.group.try_clone(alloc)?,
+            created_at: self.created_at,
+        })
+    }
 }

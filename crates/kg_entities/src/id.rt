@@ -3,7 +3,9 @@
 ghost use Rattle.std.specs.Prelude.{◌≡◌, ℕ, ◌<◌, ◌≤◌, ◌^◌, IfOk, Some, length};
 ghost use Rattle.std.specs.Int.{to_be_bytes, w128};
 ghost use Rattle.uuid.specs.Text.{hyphenated_text, lower};
+ghost use Rattle.std.specs.Str.{bytes_eq};
 ghost use Rattle.kg_entities.specs.Ids.{id_of, printed, drawn_id};
+ghost use Rattle.kg_entities.specs.Lookups.{printed_id_of};
 
 use kg_text::{NoMemory, Text};
 use std::alloc::Global;
@@ -43,6 +45,16 @@ impl Id {
         }
     }
 
+    /// The id that is printed as this text.
+    pub fn of_printed(text: &[u8]) -> Option<Id>
+        ensures { result ≡ printed_id_of text.now }
+    {
+        match Id::parse(text) {
+            Some(id) if id.is_printed_as(text) => Some(id),
+            _ => None,
+        }
+    }
+
     /// The id of version 4 that 16 random bytes give: all their bits but the six of the version
     /// and the variant.
     #[tactic(auto, unfolding(crate::specs::Ids::drawn_id))]
@@ -69,6 +81,16 @@ impl Id {
         let mut buffer = Uuid::encode_buffer();
         let form = self.uuid().hyphenated();
         Text::from_str(alloc, in_lower_case(&form, &mut buffer))
+    }
+
+    /// Whether this is the printed id.
+    #[tactic(auto, unfolding(crate::specs::Ids::printed))]
+    pub fn is_printed_as(self, text: &[u8]) -> bool
+        ensures { result ≡ bytes_eq (printed self) text.now }
+    {
+        let mut buffer = Uuid::encode_buffer();
+        let form = self.uuid().hyphenated();
+        in_lower_case(&form, &mut buffer).as_bytes() == text
     }
 
     fn uuid(self) -> Uuid

@@ -10,7 +10,10 @@ mod id;
 mod key;
 mod plugin;
 mod route;
+mod row;
+mod rows;
 mod service;
+mod table;
 mod value;
 
 pub use crate::config::{
@@ -23,5 +26,8 @@ pub use crate::id::Id;
 pub use crate::key::{GenKey, Key};
 pub use crate::plugin::{PluginName, PluginRow, Scope};
 pub use crate::route::{HeaderTest, Route};
+pub use crate::row::{Owned, Row};
+pub use crate::rows::Rows;
 pub use crate::service::Service;
+pub use crate::table::Table;
 pub use crate::value::Value;

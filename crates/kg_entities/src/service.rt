@@ -1,7 +1,8 @@
 //! Services: the upstreams that routes lead to.
 
 use crate::id::Id;
-use kg_text::Text;
+use kg_text::{NoMemory, Text, TryClone};
+use std::alloc::Global;
 
 /// An upstream service (Kong Admin API, "Service").
 #[derive(Debug, PartialEq, Drop)]
@@ -22,4 +23,20 @@ pub struct Service {
     pub created_at: u64,
     /// In seconds.
     pub updated_at: u64,
+}
+
+impl TryClone for Service {
+    fn try_clone(&self, alloc: Global) -> Result<Service, NoMemory> {
+        Ok(Service {
+            id: self.id,
+            name: self.name.try_clone(alloc)?,
+            host: self.host.try_clone(alloc)?,
+            port: self.port,
+            path: self.path.try_clone(alloc)?,
+            retries: self.retries,
+            enabled: self.enabled,
+            created_at: self.created_at,
+            updated_at: self.updated_at,
+        })
+    }
 }

@@ -1,0 +1,119 @@
+//! The rows of one kind, with an index by id.
+
+ghost use Rattle.std.specs.Prelude.{◌≡◌, [], ◌∷◌, ◌++◌, ◌==◌, false, OnOk, OnErr, find, filter, length, not};
+ghost use Rattle.std.specs.Option.{option_copied};
+ghost use Rattle.std.specs.List.{list_any};
+ghost use Rattle.kg_entities.specs.RowChanges.{names_row};
+ghost use Rattle.kg_entities.specs.Tables.{replaced};
+
+use crate::entity::Kind;
+use crate::id::Id;
+use crate::plugin::PluginRow;
+use crate::row::{Owned, Row};
+use indexmap::IndexMap;
+use kg_text::NoMemory;
+use std::alloc::Global;
+use std::marker::Model;
+
+/// The rows of one kind. Contracts see them as a list in the order of insertion.
+#[derive(Debug, Drop)]
+pub struct Table<T: Row> {
+    rows: IndexMap<Id, T>,
+}
+
+impl<T: Row> Model for Table<T> {
+    ghost use Rattle.std.specs.Prelude.{List, map, All, ◌≡◌};
+    ghost use Rattle.std.specs.Coded.{coded_list};
+    ghost use Rattle.std.specs.Map.{values_of};
+
+    ghost Value = { List T };
+
+    ghost coded = { coded_list T.code };
+
+    ghost view = { λ table. values_of table.rows.entries };
+
+    ghost invariant = { λ table. All (λ entry. entry.0 ≡ T.number entry.1) table.rows.entries };
+}
+
+impl<T: Row> Table<T> {
+    /// No rows. It takes no memory.
+    pub(crate) fn new(alloc: Global) -> Table<T>
+        ensures { result ≡ [] }
+    {
+        Table {
+            rows: IndexMap::new(alloc),
+        }
+    }
+
+    pub fn as_slice(&self) -> &[T]
+        ensures { result.now ≡ self.now }
+    {
+        self.rows.values().as_slice()
+    }
+
+    pub fn len(&self) -> usize
+        ensures { result ≡ length self.now }
+    {
+        self.rows.len()
+    }
+
+    /// The first row with this id.
+    pub fn get(&self, id: Id) -> Option<&T>
+        ensures { option_copied result ≡ find (λ row. T.number row == id) self.now }
+    {
+        self.rows.get(&id)
+    }
+
+    /// Whether there is a row with this id.
+    pub fn contains(&self, id: Id) -> bool
+        ensures { result ≡ list_any (λ row. T.number row == id) self.now }
+    {
+        self.rows.contains_key(&id)
+    }
+
+    /// Adds a row at the end.
+    pub(crate) fn push(&mut self, row: T) -> Result<(), NoMemory>
+        requires new { list_any (λ other. T.number other == T.number row) self.old ≡ false }
+        ensures ok { OnOk result (self.new ≡ self.old ++ row ∷ []) }
+        ensures err { OnErr result (self.new ≡ self.old) }
+    {
+        self.rows.insert(row.id(), row)?;
+        Ok(())
+    }
+
+    /// Puts a row in the place of the one with its id, if there is one.
+    pub(crate) fn replace(&mut self, row: T)
+        ensures { self.new ≡ replaced (λ other. T.number other == T.number row) row self.old }
+    {
+        if self.rows.contains_key(&row.id()) {
+            let Ok(_) = self.rows.insert(row.id(), row) else {
+                unreachable!()
+            };
+        }
+    }
+
+    /// Takes out the rows with this id.
+    pub(crate) fn remove(&mut self, id: Id)
+        ensures { self.new ≡ filter (λ row. not (T.number row == id)) self.old }
+    {
+        self.rows.retain(|_, row| row.id() != id);
+    }
+}
+
+impl Table<PluginRow> {
+    /// Takes out the plugins whose scope names the row of this kind and id.
+    pub(crate) fn remove_of(&mut self, kind: Kind, id: Id)
+        ensures { self.new ≡ filter (λ plugin. not (names_row kind id plugin)) self.old }
+    {
+        self.rows.retain(|_, plugin| !plugin.scope.names(kind, id));
+    }
+}
+
+impl<T: Owned> Table<T> {
+    /// Takes out the rows of this consumer.
+    pub(crate) fn remove_owned(&mut self, consumer: Id)
+        ensures { self.new ≡ filter (λ row. not (T.owner row == consumer)) self.old }
+    {
+        self.rows.retain(|_, row| row.consumer() != consumer);
+    }
+}

@@ -1,0 +1,9 @@
+mod Covers
+mod Differs
+mod Exact
+mod GenerationLemmas
+mod GroupLemmas
+mod HistoryLemmas
+mod SameLemmas
+mod Searches
+mod SetLemmas

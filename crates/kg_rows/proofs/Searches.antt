@@ -1,0 +1,70 @@
+-- Searches of a list that was changed where they don't look.
+use Rattle.std.proofs.Common.{◌≡◌, Bool, true, false, cond, not, ◌||◌, List, [], ◌∷◌, ◌++◌, Option, None, Some, filter, find, refl, sym, ap, ◌∙◌, true≢false}
+use Rattle.std.proofs.lemmas.List.Folds.{list_any-append}
+use Rattle.std.specs.List.{list_any, flat_map}
+use Rattle.kg_entities.specs.Tables.{replaced}
+
+pub or_left : (a b : Bool) → (a || b) ≡ false → a ≡ false
+or_left false b h = refl
+or_left true b h = h
+
+pub or_right : (a b : Bool) → (a || b) ≡ false → b ≡ false
+or_right false b h = h
+or_right true b h = absurd (true≢false h)
+
+module _ {X : Type 0} (p : X → Bool) where
+  -- a member that fails is passed by
+  pub filter_past_push : (x : X) → p x ≡ false → (xs : List X) → filter p (xs ++ x ∷ []) ≡ filter p xs
+  filter_past_push x fails [] = ap (λ b. cond b (x ∷ []) []) fails
+  filter_past_push x fails (y ∷ xs) = ap (λ rest. cond (p y) (y ∷ rest) rest) (filter_past_push x fails xs)
+
+  -- members that are taken out and fail
+  pub filter_past_filter : (gone : X → Bool) (xs : List X) → list_any p (filter gone xs) ≡ false → filter p (filter (λ x. not (gone x)) xs) ≡ filter p xs
+  filter_past_filter gone [] none = refl
+  filter_past_filter gone (x ∷ xs) none =
+      (elim (gone x) as (λ g. list_any p (cond {A = List X} g (x ∷ filter gone xs) (filter gone xs)) ≡ false
+      → filter p (cond {A = List X} (not g) (x ∷ filter (λ y. not (gone y)) xs) (filter (λ y. not (gone y)) xs)) ≡ cond {A = List X} (p x) (x ∷ filter p xs) (filter p xs)) [
+        | true ↦ λ h. filter_past_filter gone xs (or_right (p x) (list_any p (filter gone xs)) h)
+            ∙ sym (ap (λ b. cond {A = List X} b (x ∷ filter p xs) (filter p xs)) (or_left (p x) (list_any p (filter gone xs)) h))
+        | false ↦ λ h. ap (λ rest. cond {A = List X} (p x) (x ∷ rest) rest) (filter_past_filter gone xs h)
+      ]) none
+
+  -- a member that fails is replaced by one that fails
+  pub filter_past_replaced : (which : X → Bool) (new : X) → p new ≡ false → (xs : List X) → list_any p (filter which xs) ≡ false → filter p (replaced which new xs) ≡ filter p xs
+  filter_past_replaced which new fails [] none = refl
+  filter_past_replaced which new fails (x ∷ xs) none =
+      (elim (which x) as (λ w. list_any p (cond {A = List X} w (x ∷ filter which xs) (filter which xs)) ≡ false
+      → filter p (cond {A = List X} w (new ∷ xs) (x ∷ replaced which new xs)) ≡ cond {A = List X} (p x) (x ∷ filter p xs) (filter p xs)) [
+        | true ↦ λ h. ap (λ b. cond {A = List X} b (new ∷ filter p xs) (filter p xs)) fails
+            ∙ sym (ap (λ b. cond {A = List X} b (x ∷ filter p xs) (filter p xs)) (or_left (p x) (list_any p (filter which xs)) h))
+        | false ↦ λ h. ap (λ rest. cond {A = List X} (p x) (x ∷ rest) rest) (filter_past_replaced which new fails xs h)
+      ]) none
+
+  -- the first that passes is the first of those that pass
+  pub find_filter : (xs : List X) → find p xs ≡ find p (filter p xs)
+  find_filter [] = refl
+  find_filter (x ∷ xs) =
+      (elim (p x) as (λ b. p x ≡ b → cond {A = Option X} b (Some x) (find p xs) ≡ find p (cond {A = List X} b (x ∷ filter p xs) (filter p xs))) [
+        | true ↦ λ is. sym (ap (λ b. cond {A = Option X} b (Some x) (find p (filter p xs))) is)
+        | false ↦ λ _. find_filter xs
+      ]) refl
+
+  -- where the same pass, the same is first
+  pub find_by_filter : (xs ys : List X) → filter p xs ≡ filter p ys → find p xs ≡ find p ys
+  find_by_filter xs ys same = find_filter xs ∙ ap (find p) same ∙ sym (find_filter ys)
+
+-- where no key of a list passes, no row passes whose keys are in it
+pub none_of_all : {X K : Type 0} (q : K → Bool) (f : X → List K) (p : X → Bool) → ((x : X) → list_any q (f x) ≡ false → p x ≡ false)
+    → (xs : List X) → list_any q (flat_map f xs) ≡ false → list_any p xs ≡ false
+none_of_all q f p covers [] none = refl
+none_of_all q f p covers (x ∷ xs) none =
+    let parts : (list_any q (f x) || list_any q (flat_map f xs)) ≡ false = sym (list_any-append q (f x) (flat_map f xs)) ∙ none in
+    ap (λ b. b || list_any p xs) (covers x (or_left (list_any q (f x)) (list_any q (flat_map f xs)) parts))
+    ∙ none_of_all q f p covers xs (or_right (list_any q (f x)) (list_any q (flat_map f xs)) parts)
+
+-- a front part, and a back part, of which none passes
+pub none_of_front : {K : Type 0} (q : K → Bool) (xs ys : List K) → list_any q (xs ++ ys) ≡ false → list_any q xs ≡ false
+none_of_front q xs ys none = or_left (list_any q xs) (list_any q ys) (sym (list_any-append q xs ys) ∙ none)
+
+pub none_of_back : {K : Type 0} (q : K → Bool) (xs ys : List K) → list_any q (xs ++ ys) ≡ false → list_any q ys ≡ false
+none_of_back q xs ys none = or_right (list_any q xs) (list_any q ys) (sym (list_any-append q xs ys) ∙ none)

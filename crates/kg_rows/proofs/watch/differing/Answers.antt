@@ -1,0 +1,22 @@
+use Rattle.std.proofs.Common.{◌≡◌, ◌∷◌, length, ap, arith}
+use Rattle.kg_rows.specs.Watching.{IsOrderly}
+use Rattle.kg_rows.proofs.Differs.{differ_more, all_front, all_last}
+use Rattle.kg_rows.proofs.watch.differing.Goals as goal
+
+-- a key is left, so there is room for it
+pub note-requires : goal.note-requires
+note-requires c =
+    let e : c.loop-w.w-iterator.rest.items ≡ c.in-Some.w ∷ c.next.new.self.rest.items = c.in-Some.ensures.steps.0 in
+    omega (arith, c.loop-w.invariant.room, ap length e)
+
+-- one more key is noted
+pub loop-w-preserved : goal.loop-w-preserved
+loop-w-preserved c =
+    let e : c.loop-w.w-iterator.rest.items ≡ c.in-Some.w ∷ c.next.new.self.rest.items = c.in-Some.ensures.steps.0 in
+    record {
+      room = omega (arith, c.loop-w.invariant.room, c.note.ensures.room, c.note.ensures.len, ap length e);
+      differ = λ orderly.
+          differ_more c.args.rows.now c.loop-w.yielded c.in-Some.w c.loop-w.keys.items c.note.new.keys.items
+          (c.loop-w.invariant.differ (all_front (λ w. IsOrderly w.before) c.loop-w.yielded c.in-Some.w orderly))
+          (c.note.ensures.noted (all_last (λ w. IsOrderly w.before) c.loop-w.yielded c.in-Some.w orderly));
+    }

@@ -1,0 +1,75 @@
+-- Rows as they are named from outside: by id or by word, among all of a kind or among those of a parent.
+use Rattle.std.specs.Prelude.{ℕ, ◌==◌, List, filter, find, Option, Some, None, option_map, option_and_then}
+use Rattle.std.specs.Option.{option_or}
+use Rattle.std.specs.Str.{bytes_eq}
+use Rattle.kg_entities.specs.Entities.{id_of_row}
+use Rattle.kg_entities.specs.Ids.{id_of}
+use Rattle.kg_entities.specs.Lookups.{service_named, route_named, consumer_with_username, cred_with_key, cred_with_username}
+use Rattle.kg_entities.specs.RowChanges.{names_row}
+use Rattle.kg_entities.specs.RowLists.{RowLists}
+use Rattle.kg_entities.specs.declared.entity.Entity.{Entity}
+use Rattle.kg_entities.specs.declared.entity.Entity.TheVariants as row
+use Rattle.kg_entities.specs.declared.entity.Kind.{Kind}
+use Rattle.kg_entities.specs.declared.entity.Kind.TheVariants as kind
+use Rattle.kg_rows.specs.declared.select.Parent.{Parent}
+use Rattle.kg_rows.specs.declared.select.Select.{Select}
+use Rattle.kg_rows.specs.declared.select.Select.TheVariants.{Id, Word}
+
+-- the row of this kind and id
+abbrev pub row_with_id : Kind → ℕ → RowLists → Option Entity
+row_with_id kind.Service id rows = option_map row.Service (find (λ r. r.id == id) rows.services)
+row_with_id kind.Route id rows = option_map row.Route (find (λ r. r.id == id) rows.routes)
+row_with_id kind.Consumer id rows = option_map row.Consumer (find (λ r. r.id == id) rows.consumers)
+row_with_id kind.KeyCred id rows = option_map row.KeyCred (find (λ r. r.id == id) rows.key_creds)
+row_with_id kind.BasicCred id rows = option_map row.BasicCred (find (λ r. r.id == id) rows.basic_creds)
+row_with_id kind.Acl id rows = option_map row.Acl (find (λ r. r.id == id) rows.acls)
+row_with_id kind.Plugin id rows = option_map row.Plugin (find (λ r. r.id == id) rows.plugins)
+
+-- the key credential with this id, where the text tells one and such a row is there, else with this key
+abbrev pub key_cred_of_word : List ℕ → RowLists → Option Entity
+key_cred_of_word text rows =
+    option_or (option_and_then (λ id. row_with_id kind.KeyCred id rows) (id_of text))
+    (option_map row.KeyCred (cred_with_key text rows.key_creds))
+
+-- the row of this kind with this name, username, key or group; plugins have none
+abbrev pub row_with_word : Kind → List ℕ → RowLists → Option Entity
+row_with_word kind.Service text rows = option_map row.Service (service_named text rows.services)
+row_with_word kind.Route text rows = option_map row.Route (route_named text rows.routes)
+row_with_word kind.Consumer text rows = option_map row.Consumer (consumer_with_username text rows.consumers)
+row_with_word kind.KeyCred text rows = key_cred_of_word text rows
+row_with_word kind.BasicCred text rows = option_map row.BasicCred (cred_with_username text rows.basic_creds)
+row_with_word kind.Acl text rows = option_map row.Acl (find (λ r. bytes_eq r.group text) rows.acls)
+row_with_word kind.Plugin text rows = None
+
+abbrev pub selected : Kind → Select → RowLists → Option Entity
+selected kind (Id id) rows = row_with_id kind id rows
+selected kind (Word text) rows = row_with_word kind text rows
+
+-- the rows that stand under a row: the routes and plugins of a service, the plugins of a route, the
+-- credentials, groups and plugins of a consumer; of the other kinds all rows
+abbrev pub rows_under : Kind → ℕ → RowLists → RowLists
+rows_under kind.Service id rows = record rows {
+  routes = filter (λ r. r.service == id) rows.routes;
+  plugins = filter (names_row kind.Service id) rows.plugins;
+}
+rows_under kind.Route id rows = record rows { plugins = filter (names_row kind.Route id) rows.plugins }
+rows_under kind.Consumer id rows = record rows {
+  key_creds = filter (λ r. r.consumer == id) rows.key_creds;
+  basic_creds = filter (λ r. r.consumer == id) rows.basic_creds;
+  acls = filter (λ r. r.consumer == id) rows.acls;
+  plugins = filter (names_row kind.Consumer id) rows.plugins;
+}
+rows_under _ id rows = rows
+
+-- the id of a parent, if it is there
+abbrev pub parent_id : Parent → RowLists → Option ℕ
+parent_id parent rows = option_map id_of_row (selected parent.kind parent.select rows)
+
+-- the rows among which an item is sought: all, or those under the parent, if it is there
+abbrev pub rows_below : Option Parent → RowLists → Option RowLists
+rows_below None rows = Some rows
+rows_below (Some parent) rows = option_map (λ id. rows_under parent.kind id rows) (parent_id parent rows)
+
+-- the row that is meant: none where the parent is missing
+abbrev pub found : Kind → Option Parent → Select → RowLists → Option Entity
+found kind parent select rows = option_and_then (selected kind select) (rows_below parent rows)

@@ -1,0 +1,28 @@
+//! Changes of the rows: the commands, what they touch, and when they are allowed.
+//!
+//! A change is a function of the rows before it. Nothing is kept here: who holds the rows, and in
+//! which order commands come, is said by the crates above.
+#![tactic(auto)]
+
+mod admit;
+mod candidates;
+mod change;
+mod command;
+mod generations;
+mod laws;
+mod same;
+mod select;
+mod touched;
+mod value;
+mod watch;
+
+pub use crate::admit::allowed;
+pub use crate::change::apply;
+pub use crate::command::Command;
+pub use crate::laws::last_command_changes_what_differs;
+pub use crate::select::{Parent, Select};
+pub use crate::touched::Touched;
+pub use crate::value::value_of;
+
+#[cfg(test)]
+mod tests;
