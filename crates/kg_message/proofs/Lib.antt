@@ -1,1 +1,2 @@
 pub mod CommaListLemmas
+pub mod RenameLemmas

@@ -1,10 +1,16 @@
 -- Lists of header fields (RFC 9110, section 5): order is kept, and names are compared without case.
-use Rattle.std.specs.Prelude.{ℕ, Bool, ◌==◌, List, [], ◌∷◌, ◌++◌, Option, option_map, find, filter, map, codes, if◌then◌else◌}
+use Rattle.std.specs.Prelude.{ℕ, Bool, ◌==◌, List, [], ◌∷◌, ◌++◌, Option, option_map, nat_eq, find, filter, map, codes, if◌then◌else◌}
 use Rattle.std.specs.List.{list_any, before_first}
+use Rattle.std.specs.Cmp.Lexicographic.{pointwise}
+use Rattle.std.specs.Ordering.{eq_of_both, on}
 use Rattle.std.specs.Str.{bytes_eq, str_to_ascii_lowercase}
 use Rattle.httparse.specs.Grammar.{trim_ows}
 use Rattle.kg_text.specs.ListChanges.{without, one_changed, each_changed}
 use Rattle.kg_message.specs.declared.header.Header.{Header}
+
+-- the fields have the same name and the same value
+abbrev pub same_field : Header → Header → Bool
+same_field = eq_of_both (on (λ field. field.name) (pointwise nat_eq)) (on (λ field. field.value) (pointwise nat_eq))
 
 -- the field has this name, given in any case
 abbrev pub is_named : List ℕ → Header → Bool

@@ -4,8 +4,10 @@ ghost use Rattle.std.specs.Prelude.{◌≡◌, ◌==◌, ◌≤◌, [], ◌∷�
 ghost use Rattle.std.specs.List.{position_or_len, before_first};
 ghost use Rattle.std.specs.Option.{option_copied};
 ghost use Rattle.std.specs.Cmp.Lexicographic.{pointwise, lists_per};
+ghost use Rattle.std.specs.Cmp.Rules.{comparing};
+ghost use Rattle.std.proofs.Common.{rules};
 ghost use Rattle.kg_text.specs.ListChanges.{one_changed};
-ghost use Rattle.kg_message.specs.HeaderLists.{is_named, has, first_value, added, removed, replaced, with_one, renamed, content_type, type_part, media_type};
+ghost use Rattle.kg_message.specs.HeaderLists.{is_named, same_field, has, first_value, added, removed, replaced, with_one, renamed, content_type, type_part, media_type};
 ghost use Rattle.kg_message.specs.CommaLists.{lists};
 
 use crate::comma_list::{has_element, trim_blanks};
@@ -104,9 +106,8 @@ impl Headers {
     pub fn lists(&self, name: &[u8], element: &[u8]) -> bool
         ensures { result ≡ lists name.now element.now self.now }
     {
-        self.fields
-            .iter()
-            .any(|field| field.name.same(name) && has_element(element, field.value.as_slice()))
+        self.fields.iter().any(|field| field.name.same(name)
+            && has_element(element, field.value.as_slice()))
     }
 
     /// The type of a body: the value of the first Content-Type field up to a `;`, without blanks at its
@@ -235,7 +236,7 @@ fn drop_later(fields: &mut Vec<Header>, name: &[u8])
     ensures { fields.new.items ≡ one_changed (is_named name.now) (λ field. field) fields.old.items }
 {
     let mut found = false;
-    fields.retain(|field| {
+    fields.retain(move |field| {
         let named = field.name.same(name);
         let later = found && named;
         found = found || named;
@@ -281,9 +282,9 @@ fn copies(alloc: Global, name: &Name, count: usize) -> Result<Vec<Name>, NoMemor
 }
 
 impl PartialEq for Headers {
-    ghost eq = { pointwise Header.eq };
+    ghost eq = { pointwise same_field };
 
-    ghost laws = { lists_per Header.laws };
+    ghost laws = { lists_per (Prim.search (comparing, rules)) };
 
     fn eq(&self, other: &Headers) -> bool {
         self.as_slice() == other.as_slice()
@@ -294,7 +295,11 @@ impl TryClone for Headers {
     fn try_clone(&self, alloc: Global) -> Result<Headers, NoMemory> {
         let mut copy = Headers::new(alloc);
         for field in self.as_slice() {
-            copy.fields.push(field.try_clone(alloc)?)?;
+            copy.add(
+                alloc,
+                field.name.try_clone(alloc)?,
+                field.value.try_clone(alloc)?,
+            )?;
         }
         Ok(copy)
     }

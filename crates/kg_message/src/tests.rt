@@ -47,7 +47,10 @@ fn a_field_is_set_in_its_place(rt: HostRuntime) -> Result<(), Fail> {
     assert_eq!(rt; lines(alloc, &headers)?.as_str(), "x-a: 3\nx-b: 1\n");
     let value = Bytes::from_slice(alloc, b"4")?;
     headers.set(alloc, Name::of(alloc, b"x-c")?, value)?;
-    assert_eq!(rt; lines(alloc, &headers)?.as_str(), "x-a: 3\nx-b: 1\nx-c: 4\n");
+    assert_eq!(rt;
+        lines(alloc, &headers)?.as_str(),
+        "x-a: 3\nx-b: 1\nx-c: 4\n"
+    );
     Ok(())
 }
 
@@ -65,8 +68,14 @@ fn a_field_is_replaced_where_there_is_one(rt: HostRuntime) -> Result<(), Fail> {
 fn fields_are_renamed_and_removed(rt: HostRuntime) -> Result<(), Fail> {
     let alloc = rt.alloc();
     let mut headers = fields(alloc, &THREE)?;
-    assert_eq!(rt; headers.rename(alloc, b"X-A", &Name::of(alloc, b"x-d")?)?, 2);
-    assert_eq!(rt; lines(alloc, &headers)?.as_str(), "x-d: 0\nx-b: 1\nx-d: 2\n");
+    assert_eq!(rt;
+        headers.rename(alloc, b"X-A", &Name::of(alloc, b"x-d")?)?,
+        2
+    );
+    assert_eq!(rt;
+        lines(alloc, &headers)?.as_str(),
+        "x-d: 0\nx-b: 1\nx-d: 2\n"
+    );
     assert_eq!(rt; (headers.remove(b"X-D"), headers.remove(b"x-d")), (2, 0));
     assert_eq!(rt; lines(alloc, &headers)?.as_str(), "x-b: 1\n");
     Ok(())
@@ -123,7 +132,10 @@ fn elements_of_comma_lists_are_found(rt: HostRuntime) -> Result<(), Fail> {
 #[test]
 fn a_media_type_has_no_parameters(rt: HostRuntime) -> Result<(), Fail> {
     let alloc = rt.alloc();
-    let headers = fields(alloc, &[("Content-Type", " Application/JSON\t; charset=utf-8")])?;
+    let headers = fields(
+        alloc,
+        &[("Content-Type", " Application/JSON\t; charset=utf-8")],
+    )?;
     assert!(rt; headers.media_type() == Some(b"Application/JSON".as_slice()));
     assert!(rt; Headers::new(alloc).media_type().is_none());
     Ok(())

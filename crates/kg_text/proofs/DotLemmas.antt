@@ -1,12 +1,12 @@
 -- A path that stays as it is without its dots, by what it spells and by its length.
-use Rattle.std.proofs.Common.{◌≡◌, ◌↔◌, ℕ, ◌+◌, ◌-◌, ◌<◌, ◌≤◌, Bool, true, false, not, ◌&&◌, ◌||◌, cond, eqb, List, [], ◌∷◌, ◌++◌, length, take, drop, get_or, refl, sym, ap, ◌∙◌, arith, append_assoc, fold, inl, inr}
-use Rattle.std.specs.List.{slice_split, join_with_byte}
-use Rattle.std.proofs.lemmas.Bool.{and_parts, or_parts, or_from, cond-true, cond-false, cases_Bool, eqb-true, eqb-false, not-true}
+use Rattle.std.proofs.Common.{◌≡◌, ℕ, ◌+◌, ◌-◌, ◌<◌, ◌≤◌, Bool, true, false, not, ◌&&◌, ◌||◌, cond, eqb, List, [], ◌∷◌, ◌++◌, length, take, drop, get_or, refl, sym, ap, ◌∙◌, arith, append_assoc, fold, inl, inr}
+use Rattle.std.specs.List.{join_with_byte}
+use Rattle.std.proofs.lemmas.Bool.{and_parts, or_parts, or_from, cond-false, cases_Bool, eqb-true, eqb-false, not-true}
 use Rattle.std.proofs.lemmas.List.{append-nil, take-append-drop, length-append, nil_from_length, at_drop_more}
 use Rattle.std.proofs.lemmas.List.Concat.{flat_map-append}
 use Rattle.std.proofs.lemmas.List.Splits.{length-slice_split, join_with_byte-slice_split}
 use Rattle.std.specs.Str.{bytes_eq}
-use Rattle.kg_text.specs.Paths.{slash, segments, is_idle, is_parent, is_dropped, keep, kept, ends_open, without_dots}
+use Rattle.kg_text.specs.Paths.{slash, segments, is_idle, is_parent, is_dropped, keep, kept, without_dots}
 use Rattle.kg_text.specs.Segments.{spelled, is_dots}
 use Rattle.kg_text.proofs.SegmentLemmas.{spelled-push, spelled-join, without_dots-spelled}
 

@@ -1,5 +1,5 @@
 -- How `normal_escapes` goes over the front of the bytes.
-use Rattle.std.proofs.Common.{◌≡◌, ◌≢◌, ◌↔◌, ℕ, Bool, true, false, ◌&&◌, cond, List, [], ◌∷◌, ◌++◌, length, refl, sym, ap, ◌∙◌}
+use Rattle.std.proofs.Common.{◌≡◌, ◌≢◌, ℕ, Bool, true, false, ◌&&◌, cond, List, [], ◌∷◌, ◌++◌, length, refl, sym, ap, ◌∙◌}
 use Rattle.std.specs.Char.{is_digit, to_ascii_uppercase}
 use Rattle.std.proofs.lemmas.Bool.{cond-true, cond-false, and_from, true≢false}
 use Rattle.kg_text.specs.Paths.{percent_sign, is_unreserved, is_escape, escaped_byte, normal_escape, normal_escapes}
