@@ -1,6 +1,5 @@
 -- Which route is the best.
-use Rattle.std.proofs.Common.{◌≡◌, ◌≢◌, ℕ, ◌<◌, Bool, true, false, ◌||◌, ◌==◌, List, [], map, length, get_or, Some, None, refl, sym, ap, ◌∙◌, find, filter, All, AllPairs, Contains, IsTrue, inl, inr, true≢false, nat_eq, arith}
-use Rattle.std.specs.List.{list_all, IsDistinct}
+use Rattle.std.proofs.Common.{◌≡◌, ◌≢◌, ℕ, Bool, true, false, ◌||◌, ◌==◌, List, map, get_or, Some, None, refl, sym, ap, ◌∙◌, find, filter, AllPairs, Contains, inl, inr, true≢false, nat_eq, arith}
 use Rattle.std.proofs.lemmas.Bool.{cases_lt}
 use Rattle.std.proofs.lemmas.Bool.Decides.{Decides-eqb}
 use Rattle.std.proofs.lemmas.List.{get_or_default, get_or-map, length-map}

@@ -1,6 +1,6 @@
 -- The first candidate whose route fits leads to the best route.
 use Rattle.std.proofs.Common.{◌≡◌, ℕ, ◌+◌, ◌<◌, ◌≤◌, Bool, true, false, cond, ◌&&◌, List, [], ◌∷◌, ◌++◌, length, get_or, take, Option, Some, None, is_some, IsSome, option_map, option_and_then, refl, sym, ap, ◌∙◌, subst, All, Any, Contains, find, nat_lt, inl, inr, true≢false, is_lt, arith}
-use Rattle.std.proofs.lemmas.Bool.{cases_lt, cases_eq}
+use Rattle.std.proofs.lemmas.Bool.{cases_lt}
 use Rattle.std.proofs.lemmas.List.{get_or_default, get_or_append_left, get_or-take, length-take-le, length_push, get_or_push}
 use Rattle.std.proofs.lemmas.List.Elements.{All-contains, All-contains_itself, All-push}
 use Rattle.std.proofs.lemmas.List.MinMax.{ranks_by}
@@ -15,7 +15,7 @@ use Rattle.kg_entities.specs.declared.service.Service.{Service}
 use Rattle.kg_match.specs.Fits.{fits, cut_of, match_of}
 use Rattle.kg_message.specs.declared.request.Request.{Request}
 use Rattle.kg_router.specs.declared.candidate.Candidate.{Candidate}
-use Rattle.kg_router.specs.Best.{Choice, service_of, takes, best_route, best_choice}
+use Rattle.kg_router.specs.Best.{Choice, service_of, takes, best_choice}
 use Rattle.kg_router.specs.Order.{is_before}
 use Rattle.kg_router.specs.Ranks.{rank_of, rank_cmp}
 use Rattle.kg_router.specs.Table.{IsCandidate, AreListed, IsTable}

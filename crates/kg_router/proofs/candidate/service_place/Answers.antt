@@ -1,4 +1,4 @@
-use Rattle.std.proofs.Common.{◌≡◌, ◌==◌, Bool, Some, None, cond, option_and_then, sym, ap, ◌∙◌}
+use Rattle.std.proofs.Common.{◌==◌, Some, None, cond, option_and_then, sym, ap, ◌∙◌}
 use Rattle.kg_entities.specs.declared.service.Service.{Service}
 use Rattle.kg_router.proofs.TableLemmas.{if_enabled, place-some, place-none}
 use Rattle.kg_router.proofs.candidate.service_place.Goals as goal
