@@ -13,9 +13,11 @@ stripped path None none = by_path path none
   where
     equal : (first : ℕ) → nat_eq 126 first ≡ true → 126 ≡ first
     equal first is = grind arith
+
     by_first : (first : ℕ) (text : List ℕ) → ((other : List ℕ) → (first ∷ text) ≢ 126 ∷ other) → (same : Bool) → nat_eq 126 first ≡ same → (same && true) ≡ false
     by_first first text none true is = absurd (none text (ap (λ b. b ∷ text) (sym (equal first is))))
     by_first first text none false is = refl
+
     by_path : (path : List ℕ) → ((text : List ℕ) → path ≢ 126 ∷ text) → is_regex_path path ≡ false
     by_path [] none = refl
     by_path (first ∷ text) none = by_first first text none (nat_eq 126 first) refl

@@ -125,6 +125,7 @@ listed-push services routes count candidates candidate listed at own = record { 
   where
     old : (k : ℕ) → Any (λ one. one.test ≡ k) candidates → Any (λ one. one.test ≡ k) (candidates ++ candidate ∷ [])
     old k any = (any.0, any.1, omega (arith, any.2, length_push candidates candidate), get_or_append_left candidates (candidate ∷ []) any.1 any.0 any.2 ∙ any.3, any.4)
+
     complete : (k : ℕ) (d : Route) → k < count + 1 → IsSome (service_of services (get_or routes k d)) → Any (λ one. one.test ≡ k) (candidates ++ candidate ∷ [])
     complete k d below some = elim (cases_lt k count) [
       | inl before ↦ old k (listed.complete k d before some)
@@ -169,6 +170,7 @@ place-none test xs none = by_within (nat_lt (position_or_len test xs) (length xs
   where
     beyond : (m n : ℕ) → nat_lt m n ≡ false → n ≤ m
     beyond m n is = grind arith
+
     by_within : (within : Bool) → nat_lt (position_or_len test xs) (length xs) ≡ within → cond within (Some (position_or_len test xs)) None ≡ None → find test xs ≡ None
     by_within true is none = absurd (cc)
     by_within false is none = find_at test xs ∙ slice_get_past xs (position_or_len test xs) (beyond (position_or_len test xs) (length xs) is)
