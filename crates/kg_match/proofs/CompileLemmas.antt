@@ -1,11 +1,11 @@
 -- The patterns of paths, path by path.
-use Rattle.std.proofs.Common.{◌≡◌, ◌≢◌, ◌+◌, ◌<◌, ℕ, Bool, true, false, cond, not, ◌&&◌, List, [], ◌∷◌, ◌++◌, map, filter, length, take, get_or, Option, Some, None, MatchOption, Bor, nat_eq, nat_lt, codes, refl, sym, ap, ◌∙◌, subst, true≢false, arith}
-use Rattle.std.specs.List.{position, position_or_len, starts_with}
-use Rattle.std.proofs.lemmas.List.{map-append, take_more}
+use Rattle.std.proofs.Common.{◌≡◌, ◌≢◌, ◌<◌, ℕ, Bool, true, false, cond, not, ◌&&◌, List, [], ◌∷◌, ◌++◌, map, filter, length, get_or, Option, Some, None, MatchOption, Bor, nat_eq, nat_lt, refl, sym, ap, ◌∙◌, true≢false, arith}
+use Rattle.std.specs.List.{position}
+use Rattle.std.proofs.lemmas.List.{map-append}
 use Rattle.std.proofs.lemmas.List.Elements.{filter-append}
 use Rattle.std.proofs.lemmas.List.Sums.{position_or_len_is}
 use Rattle.kg_entities.specs.Words.{is_regex_path}
-use Rattle.kg_match.specs.RoutePaths.{pattern_text, patterns_of, has_bad_pattern}
+use Rattle.kg_match.specs.RoutePaths.{pattern_text, patterns_of}
 
 -- what a `~` is stripped of
 pub stripped : (path : List ℕ) (rest : Option (Bor (List ℕ))) → MatchOption rest ((text : List ℕ) → path ≢ 126 ∷ text) (λ text. path ≡ 126 ∷ text.now) → MatchOption rest (is_regex_path path ≡ false) (λ text. path ≡ 126 ∷ text.now)

@@ -1,5 +1,5 @@
 -- Which paths fit, and how many bytes they take.
-use Rattle.std.proofs.Common.{◌≡◌, ◌≢◌, ℕ, Bool, true, false, cond, not, ◌&&◌, ◌||◌, max, List, [], ◌∷◌, map, filter, length, Option, Some, None, is_some, refl, sym, ap, ◌∙◌, nat_eq}
+use Rattle.std.proofs.Common.{◌≡◌, ◌≢◌, ℕ, Bool, true, false, cond, not, ◌&&◌, ◌||◌, max, List, [], ◌∷◌, map, filter, length, Option, Some, None, is_some, refl, ap, ◌∙◌, nat_eq}
 use Rattle.std.specs.List.{list_any, reduce, starts_with}
 use Rattle.std.specs.Option.{option_or, unwrap_or}
 use Rattle.kg_entities.specs.Words.{is_regex_path}
