@@ -1,11 +1,11 @@
 -- The patterns of paths, path by path.
-use Rattle.std.proofs.Common.{◌≡◌, ◌≢◌, ◌+◌, ◌<◌, ℕ, Bool, true, false, cond, not, ◌&&◌, List, [], ◌∷◌, ◌++◌, map, filter, length, take, get_or, Option, Some, None, MatchOption, Bor, nat_eq, nat_lt, codes, refl, sym, ap, ◌∙◌, subst, true≢false, arith}
-use Rattle.std.specs.List.{position, position_or_len, starts_with}
-use Rattle.std.proofs.lemmas.List.{map-append, take_more}
+use Rattle.std.proofs.Common.{◌≡◌, ◌≢◌, ◌<◌, ℕ, Bool, true, false, cond, not, ◌&&◌, List, [], ◌∷◌, ◌++◌, map, filter, length, get_or, Option, Some, None, MatchOption, Bor, nat_eq, nat_lt, refl, sym, ap, ◌∙◌, true≢false, arith}
+use Rattle.std.specs.List.{position}
+use Rattle.std.proofs.lemmas.List.{map-append}
 use Rattle.std.proofs.lemmas.List.Elements.{filter-append}
 use Rattle.std.proofs.lemmas.List.Sums.{position_or_len_is}
 use Rattle.kg_entities.specs.Words.{is_regex_path}
-use Rattle.kg_match.specs.RoutePaths.{pattern_text, patterns_of, has_bad_pattern}
+use Rattle.kg_match.specs.RoutePaths.{pattern_text, patterns_of}
 
 -- what a `~` is stripped of
 pub stripped : (path : List ℕ) (rest : Option (Bor (List ℕ))) → MatchOption rest ((text : List ℕ) → path ≢ 126 ∷ text) (λ text. path ≡ 126 ∷ text.now) → MatchOption rest (is_regex_path path ≡ false) (λ text. path ≡ 126 ∷ text.now)
@@ -13,9 +13,11 @@ stripped path None none = by_path path none
   where
     equal : (first : ℕ) → nat_eq 126 first ≡ true → 126 ≡ first
     equal first is = grind arith
+
     by_first : (first : ℕ) (text : List ℕ) → ((other : List ℕ) → (first ∷ text) ≢ 126 ∷ other) → (same : Bool) → nat_eq 126 first ≡ same → (same && true) ≡ false
     by_first first text none true is = absurd (none text (ap (λ b. b ∷ text) (sym (equal first is))))
     by_first first text none false is = refl
+
     by_path : (path : List ℕ) → ((text : List ℕ) → path ≢ 126 ∷ text) → is_regex_path path ≡ false
     by_path [] none = refl
     by_path (first ∷ text) none = by_first first text none (nat_eq 126 first) refl

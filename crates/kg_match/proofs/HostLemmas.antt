@@ -1,5 +1,5 @@
 -- Hosts are compared in place.
-use Rattle.std.proofs.Common.{◌≡◌, ◌↔◌, ◌+◌, ℕ, suc, Bool, true, false, cond, not, ◌||◌, ◌==◌, List, [], ◌∷◌, length, Option, Some, None, IsTrue, nat_lt, refl, sym, ap, ◌∙◌, true≢false, arith}
+use Rattle.std.proofs.Common.{◌≡◌, ◌↔◌, ◌+◌, ℕ, suc, Bool, true, false, cond, not, ◌||◌, ◌==◌, List, [], ◌∷◌, length, Some, None, IsTrue, nat_lt, refl, sym, ◌∙◌, true≢false, arith}
 use Rattle.std.specs.List.{list_any, position, position_or_len}
 use Rattle.std.specs.Str.{bytes_eq}
 use Rattle.std.proofs.lemmas.Option.{same_Some}
@@ -22,6 +22,7 @@ any_within {A} test (x ∷ xs) = by_test (test x) (any_within test xs)
   where
     next : (m n : ℕ) → nat_lt m n ≡ nat_lt (1 + m) (suc n)
     next m n = grind arith
+
     by_test : (passes : Bool) → list_any test xs ≡ nat_lt (position_or_len test xs) (length xs) → (passes || list_any test xs) ≡ nat_lt (cond (not passes) (1 + position_or_len test xs) 0) (length (x ∷ xs))
     by_test true later = grind arith
     by_test false later = later ∙ next (position_or_len test xs) (length xs)

@@ -1,5 +1,5 @@
 -- Which paths fit, and how many bytes they take.
-use Rattle.std.proofs.Common.{◌≡◌, ◌≢◌, ℕ, Bool, true, false, cond, not, ◌&&◌, ◌||◌, max, List, [], ◌∷◌, map, filter, length, Option, Some, None, is_some, refl, sym, ap, ◌∙◌, nat_eq}
+use Rattle.std.proofs.Common.{◌≡◌, ◌≢◌, ℕ, Bool, true, false, cond, not, ◌&&◌, ◌||◌, max, List, [], ◌∷◌, map, filter, length, Option, Some, None, is_some, refl, ap, ◌∙◌, nat_eq}
 use Rattle.std.specs.List.{list_any, reduce, starts_with}
 use Rattle.std.specs.Option.{option_or, unwrap_or}
 use Rattle.kg_entities.specs.Words.{is_regex_path}
@@ -53,7 +53,7 @@ taken path paths =
     let first = first_cut path (patterns_of paths) in
     let longest = longest_prefix path paths in
     let fits : is_some (option_or first longest) ≡ list_any (path_fits path) paths =
-        is_some-or first longest ∙ ap (λ some. is_some first || some) (longest-some path paths) ∙ one_fits path paths in
+    is_some-or first longest ∙ ap (λ some. is_some first || some) (longest-some path paths) ∙ one_fits path paths in
     some_or_none (option_or first longest) ∙ ap (λ some. cond some (Some (path_cut paths path)) None) fits
 
 -- where there is a pattern, a path is a regular expression

@@ -1,11 +1,10 @@
 -- What the crate `regex` says of a text and of a search, in the words of the patterns of paths.
-use Rattle.std.proofs.Common.{◌≡◌, ◌≢◌, ◌≤◌, ◌<◌, ℕ, Bool, true, false, cond, List, Option, Some, None, IsSomeAnd, IfSome, is_some, option_map, option_and_then, nat_le, nat_eq, length, get_or, ⊎_elim, refl, sym, ap, ◌∙◌, arith}
+use Rattle.std.proofs.Common.{◌≡◌, ◌≢◌, ◌≤◌, ◌<◌, ℕ, true, false, cond, List, Option, Some, None, IsSomeAnd, IfSome, is_some, option_map, option_and_then, nat_le, nat_eq, length, get_or, ⊎_elim, refl, ap, ◌∙◌, arith}
 use Rattle.std.specs.Str.{chars}
 use Rattle.regex.specs.Patterns.{Re, Reads, Refuses, default_config, find_str, span}
 use Rattle.regex.specs.Failures.{IsRightKind}
 use Rattle.regex.specs.Sources.{IsRefusal}
 use Rattle.regex.specs.Strings.{regex_source, regex_config, regex_pattern, IsReadFromSource}
-use Rattle.regex.specs.declared.error.Error.{Error}
 use Rattle.regex.specs.declared.error.Error.TheVariants.{Syntax}
 use Rattle.regex.specs.declared.string.regex.Regex.{Regex}
 use Rattle.regex.proofs.ForCallers.{alike_as_written, span_alike}

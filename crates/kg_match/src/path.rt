@@ -94,11 +94,7 @@ fn best_cut(
 }
 
 // How many bytes the first pattern takes that fits.
-fn first_cut(
-    alloc: Global,
-    patterns: &[PathPattern],
-    path: &str,
-) -> Result<Option<usize>, NoMemory>
+fn first_cut(alloc: Global, patterns: &[PathPattern], path: &str) -> Result<Option<usize>, NoMemory>
     ensures cut { IfOk result (λ cut. cut ≡ first_cut path.now patterns.now) }
     ensures err { OnErr result (patterns.now ≢ []) }
 {

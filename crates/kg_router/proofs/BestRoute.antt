@@ -1,6 +1,5 @@
 -- Which route is the best.
-use Rattle.std.proofs.Common.{◌≡◌, ◌≢◌, ℕ, ◌<◌, Bool, true, false, ◌||◌, ◌==◌, List, [], map, length, get_or, Some, None, refl, sym, ap, ◌∙◌, find, filter, All, AllPairs, Contains, IsTrue, inl, inr, true≢false, nat_eq, arith}
-use Rattle.std.specs.List.{list_all, IsDistinct}
+use Rattle.std.proofs.Common.{◌≡◌, ◌≢◌, ℕ, Bool, true, false, ◌||◌, ◌==◌, List, map, get_or, Some, None, refl, sym, ap, ◌∙◌, find, filter, AllPairs, Contains, inl, inr, true≢false, nat_eq, arith}
 use Rattle.std.proofs.lemmas.Bool.{cases_lt}
 use Rattle.std.proofs.lemmas.Bool.Decides.{Decides-eqb}
 use Rattle.std.proofs.lemmas.List.{get_or_default, get_or-map, length-map}
@@ -44,6 +43,7 @@ first_or_same one other behind = by_ids (nat_eq other.id one.id) refl
   where
     equal : (m n : ℕ) → m ≡ n → nat_eq m n ≡ true
     equal m n same = grind arith
+
     by_ids : (same : Bool) → nat_eq other.id one.id ≡ same → (same || is_before one other) ≡ true
     by_ids true is = refl
     by_ids false is = elim (one_is_before one other (λ same. true≢false (sym (equal other.id one.id (sym same)) ∙ is))) [
@@ -69,8 +69,8 @@ module _ (routes : List Route) (distinct : AreApart routes) (takes : Route → B
       let first = list_all-from_AllPass (λ other. other.id == one.id || is_before one other) taking (λ k d below. first_or_same one (get_or taking k d) (rivals (get_or taking k d) (All-contains_itself taking k d below))) in
       find-only (is_first_of taking) taking one here first
       (λ x there is_first.
-          let at_one = All-contains (λ other. (other.id == x.id || is_before x other) ≡ true) taking one (AllPass-from_list_all (λ other. other.id == x.id || is_before x other) taking is_first) here in
-          same_by_id routes distinct x one (Contains-filtered takes routes x there).0 within (same_id one x (rivals x there) at_one))
+      let at_one = All-contains (λ other. (other.id == x.id || is_before x other) ≡ true) taking one (AllPass-from_list_all (λ other. other.id == x.id || is_before x other) taking is_first) here in
+      same_by_id routes distinct x one (Contains-filtered takes routes x there).0 within (same_id one x (rivals x there) at_one))
 
   -- where none takes it, none is
   pub best-none : ((other : Route) → Contains routes other → takes other ≡ false) → find (is_first_of (filter takes routes)) (filter takes routes) ≡ None

@@ -1,5 +1,5 @@
 -- The order of routes is a total order up to ties, and only routes of one id tie.
-use Rattle.std.proofs.Common.{length, subst, true≢false, ◌≡◌, ◌≢◌, true, List, [], ◌∷◌, IsTrue, ◌⊎◌, inl, inr, refl, sym, ap, ◌∙◌}
+use Rattle.std.proofs.Common.{subst, true≢false, ◌≡◌, ◌≢◌, true, List, [], ◌∷◌, IsTrue, ◌⊎◌, inl, inr, refl, sym, ap, ◌∙◌}
 use Rattle.std.specs.declared.cmp.Ordering.{Ordering}
 use Rattle.std.specs.declared.cmp.Ordering.TheVariants.{Less, Equal, Greater}
 use Rattle.std.specs.Ordering.{ordering_then, ordering_reverse, is_lt, then_cmp}

@@ -54,8 +54,8 @@ Contains-filter test xs x within = All-contains (λ y. test y ≡ true → Conta
 -- and the other way round
 pub Contains-filtered : {A : Type 0} (test : A → Bool) (xs : List A) (x : A) → Contains (filter test xs) x → Contains xs x × (test x ≡ true)
 Contains-filtered test xs x within = (
-    All-contains (Contains xs) (filter test xs) x (All-filter test (Contains xs) xs (All-contains_itself xs)) within,
-    All-contains (λ y. test y ≡ true) (filter test xs) x (filter_passes test xs) within,
+  All-contains (Contains xs) (filter test xs) x (All-filter test (Contains xs) xs (All-contains_itself xs)) within,
+  All-contains (λ y. test y ≡ true) (filter test xs) x (filter_passes test xs) within,
 )
 
 -- where each member fails, nothing is left

@@ -1,6 +1,6 @@
 -- The first candidate whose route fits leads to the best route.
 use Rattle.std.proofs.Common.{◌≡◌, ℕ, ◌+◌, ◌<◌, ◌≤◌, Bool, true, false, cond, ◌&&◌, List, [], ◌∷◌, ◌++◌, length, get_or, take, Option, Some, None, is_some, IsSome, option_map, option_and_then, refl, sym, ap, ◌∙◌, subst, All, Any, Contains, find, nat_lt, inl, inr, true≢false, is_lt, arith}
-use Rattle.std.proofs.lemmas.Bool.{cases_lt, cases_eq}
+use Rattle.std.proofs.lemmas.Bool.{cases_lt}
 use Rattle.std.proofs.lemmas.List.{get_or_default, get_or_append_left, get_or-take, length-take-le, length_push, get_or_push}
 use Rattle.std.proofs.lemmas.List.Elements.{All-contains, All-contains_itself, All-push}
 use Rattle.std.proofs.lemmas.List.MinMax.{ranks_by}
@@ -15,7 +15,7 @@ use Rattle.kg_entities.specs.declared.service.Service.{Service}
 use Rattle.kg_match.specs.Fits.{fits, cut_of, match_of}
 use Rattle.kg_message.specs.declared.request.Request.{Request}
 use Rattle.kg_router.specs.declared.candidate.Candidate.{Candidate}
-use Rattle.kg_router.specs.Best.{Choice, service_of, takes, best_route, best_choice}
+use Rattle.kg_router.specs.Best.{Choice, service_of, takes, best_choice}
 use Rattle.kg_router.specs.Order.{is_before}
 use Rattle.kg_router.specs.Ranks.{rank_of, rank_cmp}
 use Rattle.kg_router.specs.Table.{IsCandidate, AreListed, IsTable}
@@ -125,6 +125,7 @@ listed-push services routes count candidates candidate listed at own = record { 
   where
     old : (k : ℕ) → Any (λ one. one.test ≡ k) candidates → Any (λ one. one.test ≡ k) (candidates ++ candidate ∷ [])
     old k any = (any.0, any.1, omega (arith, any.2, length_push candidates candidate), get_or_append_left candidates (candidate ∷ []) any.1 any.0 any.2 ∙ any.3, any.4)
+
     complete : (k : ℕ) (d : Route) → k < count + 1 → IsSome (service_of services (get_or routes k d)) → Any (λ one. one.test ≡ k) (candidates ++ candidate ∷ [])
     complete k d below some = elim (cases_lt k count) [
       | inl before ↦ old k (listed.complete k d before some)
@@ -169,6 +170,7 @@ place-none test xs none = by_within (nat_lt (position_or_len test xs) (length xs
   where
     beyond : (m n : ℕ) → nat_lt m n ≡ false → n ≤ m
     beyond m n is = grind arith
+
     by_within : (within : Bool) → nat_lt (position_or_len test xs) (length xs) ≡ within → cond within (Some (position_or_len test xs)) None ≡ None → find test xs ≡ None
     by_within true is none = absurd (cc)
     by_within false is none = find_at test xs ∙ slice_get_past xs (position_or_len test xs) (beyond (position_or_len test xs) (length xs) is)

@@ -91,7 +91,11 @@ fn has_wildcard_host(route: &Route) -> bool
 fn has_regex_path(route: &Route) -> bool
     ensures { result ≡ has_regex_path route.now }
 {
-    route.paths.as_slice().iter().any(|path| is_regex_path(path))
+    route
+        .paths
+        .as_slice()
+        .iter()
+        .any(|path| is_regex_path(path))
 }
 
 fn regex_priority_of(route: &Route) -> i32

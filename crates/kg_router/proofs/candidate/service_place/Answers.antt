@@ -1,4 +1,4 @@
-use Rattle.std.proofs.Common.{◌≡◌, ◌==◌, Bool, Some, None, cond, option_and_then, sym, ap, ◌∙◌}
+use Rattle.std.proofs.Common.{◌==◌, Some, None, cond, option_and_then, sym, ap, ◌∙◌}
 use Rattle.kg_entities.specs.declared.service.Service.{Service}
 use Rattle.kg_router.proofs.TableLemmas.{if_enabled, place-some, place-none}
 use Rattle.kg_router.proofs.candidate.service_place.Goals as goal
@@ -18,7 +18,7 @@ returns-then-services-place c =
       within = rw c.in-Some.is at c.place_of.ensures.within;
       at = at;
       leads = ap (option_and_then if_enabled) (place-some (λ (one : Service). one.id == c.args.route.now.service) c.args.services.now c.in-Some.place service (sym c.place_of.ensures.value ∙ c.in-Some.is) at)
-      ∙ ap (λ enabled. cond enabled (Some service) None) (ap (λ (one : Service). one.enabled) c.index-services-place.is ∙ c.if-services-place.true);
+          ∙ ap (λ enabled. cond enabled (Some service) None) (ap (λ (one : Service). one.enabled) c.index-services-place.is ∙ c.if-services-place.true);
     }
 
 -- it isn't
