@@ -1,11 +1,11 @@
 -- Bytes are read as requests in one way.
-use Rattle.std.proofs.Common.{◌≡◌, ℕ, ◌+◌, ◌<◌, ◌≤◌, ◌⊎◌, inl, inr, List, [], ◌∷◌, ◌++◌, length, take, drop, Some, refl, sym, ap, ◌∙◌, arith}
-use Rattle.std.specs.List.{flat_map, AllByRecursion}
+use Rattle.std.proofs.Common.{◌≡◌, ℕ, ◌<◌, ◌≤◌, List, [], ◌∷◌, ◌++◌, length, take, drop, Some, refl, sym, ap, ◌∙◌, arith}
+use Rattle.std.specs.List.{flat_map}
 use Rattle.std.proofs.lemmas.List.{append-nil, append_assoc, length-append, take_at, drop_at}
 use Rattle.httparse.specs.Grammar.{print_request, ReadsRequest}
 use Rattle.httparse.proofs.GrammarLemmas.{request_unique}
 use Rattle.kg_wire.specs.Checks.{body_len}
-use Rattle.kg_wire.specs.Messages.{Message, print_message, head_of, IsMessage, IsRequest, BeginsNoRequest, IsReading}
+use Rattle.kg_wire.specs.Messages.{Message, print_message, head_of, IsMessage, BeginsNoRequest, IsReading}
 
 -- where a message stands at the front, its head does
 pub head_reads : (m : Message) (bytes rest : List ℕ) → IsMessage m → bytes ≡ print_message m ++ rest

@@ -1,5 +1,5 @@
 -- Where the bytes ahead are known, so is the answer.
-use Rattle.std.proofs.Common.{◌≡◌, ℕ, ◌+◌, ◌<◌, ◌≤◌, List, [], ◌∷◌, ◌++◌, length, Option, Some, None, Ok, Err, refl, sym, ap, ◌∙◌, arith}
+use Rattle.std.proofs.Common.{◌≡◌, ℕ, ◌<◌, List, [], ◌++◌, length, Option, Some, None, Ok, Err, refl, sym, ap, ◌∙◌, arith}
 use Rattle.std.specs.Prelude.{Result, IfOk, IfErr}
 use Rattle.std.proofs.lemmas.List.{append-nil, append_assoc, length-append}
 use Rattle.kg_message.specs.declared.request.Request.{Request}
@@ -7,8 +7,8 @@ use Rattle.kg_outside.specs.Moves.{with_front}
 use Rattle.kg_outside.proofs.Observed.{with_front-nil}
 use Rattle.kg_wire.specs.declared.reader.ReadError.{ReadError}
 use Rattle.kg_wire.specs.declared.reader.ReadError.TheVariants.{Bad, HeadTooLarge, BodyTooLarge, Cut, ReadFault, NoMemory}
-use Rattle.kg_wire.specs.Messages.{Message, print_message, request_of, IsRequest, BeginsNoRequest}
-use Rattle.kg_wire.specs.Reading.{ReaderState, IsEnded, Grows, Takes, Gives, Ends, IsUnlessKept}
+use Rattle.kg_wire.specs.Messages.{Message, print_message, request_of, IsRequest}
+use Rattle.kg_wire.specs.Reading.{ReaderState, Grows, Gives, Ends, IsUnlessPrevented}
 use Rattle.kg_wire.proofs.JudgeLemmas.{head_some}
 use Rattle.kg_wire.proofs.MessageLemmas.{head_reads, message_unique}
 use Rattle.kg_wire.proofs.ReaderLemmas.{grows_ahead}
@@ -28,7 +28,7 @@ pub reads_request : (result : Result (Option Request) ReadError) (before now : R
     (m : Message) (rest : List ℕ) → IsRequest m → with_front before.held left_before ≡ Some (print_message m ++ rest)
     → IfOk result (Gives before now left_before left_now)
     → IfErr result (Ends before.at before.held now.held left_before left_now)
-    → IsUnlessKept result (Some (request_of before.address m))
+    → IsUnlessPrevented result (Some (request_of before.address m))
 reads_request (Ok None) before now left_before left_now m rest is ahead gives ends =
     let left : left_now ≡ Some (print_message m ++ rest) =
     gives.left ∙ sym (with_front-nil left_before) ∙ ap (λ held. with_front held left_before) (sym gives.none_held) ∙ ahead in
@@ -67,7 +67,7 @@ pub reads_end : (result : Result (Option Request) ReadError) (before now : Reade
     → with_front before.held left_before ≡ Some []
     → IfOk result (Gives before now left_before left_now)
     → IfErr result (Ends before.at before.held now.held left_before left_now)
-    → IsUnlessKept result None
+    → IsUnlessPrevented result None
 reads_end (Ok None) before now left_before left_now ahead gives ends = refl
 reads_end (Ok (Some request)) before now left_before left_now ahead gives ends =
     let left = left_is (print_message gives.message ++ now.held) [] left_now (sym gives.moved ∙ ahead) in

@@ -1,27 +1,25 @@
 -- A printed upstream message is read as its parts.
-use Rattle.std.proofs.Common.{◌≡◌, ℕ, suc, ◌+◌, ◌<◌, ◌≤◌, ◌^◌, ◌==◌, nat_lt, nat_le, if◌then◌else◌, Bool, true, false, not, ◌&&◌, cond, List, [], ◌∷◌, ◌++◌, length, map, take, drop, reverse, get_or, Option, Some, None, Ok, Err, refl, sym, ap, ◌∙◌, subst, arith}
-use Rattle.std.specs.Prelude.{All, IsTrue, IsUtf8, codes, count_by, decimal, find, option_map, slice_index, unwrap_or}
+use Rattle.std.proofs.Common.{◌≡◌, ℕ, suc, ◌+◌, ◌<◌, ◌≤◌, ◌^◌, ◌==◌, nat_lt, nat_le, if◌then◌else◌, Bool, true, false, ◌&&◌, cond, List, [], ◌∷◌, ◌++◌, length, map, reverse, get_or, Some, None, Ok, Err, refl, sym, ap, ◌∙◌, subst, arith}
+use Rattle.std.specs.Prelude.{All, IsTrue, codes, count_by, decimal, find, option_map, slice_index, unwrap_or}
 use Rattle.std.specs.Int.{IsInRange}
 use Rattle.std.specs.Result.{result_unwrap_or}
-use Rattle.std.specs.List.{flat_map, list_all, list_any, before_first, after_first, position_or_len, prefix_len}
+use Rattle.std.specs.List.{flat_map, list_all, before_first, after_first, position_or_len, prefix_len}
 use Rattle.std.specs.Char.{is_ascii_digit, is_ascii_graphic}
 use Rattle.std.specs.Net.Text.{ipv4_text}
-use Rattle.std.specs.Str.{IsAscii, str_to_ascii_lowercase}
-use Rattle.std.specs.Str.Parse.{digits_value}
+use Rattle.std.specs.Str.{str_to_ascii_lowercase}
 use Rattle.std.proofs.lemmas.Bool.{eqb-true}
 use Rattle.std.proofs.lemmas.Bool.Decides.{nat_tests}
 use Rattle.std.proofs.lemmas.Str.Parse.{digit_at}
 use Rattle.std.proofs.lemmas.Fmt.{decimal_is_IsNumeral, decimal_nonempty, length-decimal-le}
-use Rattle.std.proofs.lemmas.Grind.{flat_map-append}
-use Rattle.std.proofs.lemmas.List.{get_or_default, append-nil, append_assoc, length-append, take_all, length-reverse, reverse-append}
-use Rattle.std.proofs.lemmas.List.Elements.{All-nil, All-cons, All-from_recursion, All-head, All-tail, All-append, All-map, All-weaker, All-get_or, All-from_get_or, All-take}
+use Rattle.std.proofs.lemmas.List.{get_or_default, append_assoc, take_all, length-reverse, reverse-append}
+use Rattle.std.proofs.lemmas.List.Elements.{All-nil, All-cons, All-from_recursion, All-head, All-tail, All-append, All-map, All-weaker}
 use Rattle.std.proofs.lemmas.List.Sums.{sum_by-append, sum_by-cons, AllPass-from_list_all, list_all-from_AllPass, split_at_first, passes_at_first, prefix_len_passes}
 use Rattle.std.proofs.lemmas.Str.{IsUtf8-from_ascii}
 use Rattle.std.proofs.lemmas.Str.Ascii.{IsAscii-from_all}
-use Rattle.httparse.specs.Grammar.{AllPass, IsToken, is_token_byte, is_uri_byte, is_value_byte, is_ows, skip_ows, trim_ows, crlf, Field, IsField as IsFieldLine, print_field, print_section, print_version, print_end, RequestHead, IsRequestHead, print_request, field_value}
+use Rattle.httparse.specs.Grammar.{AllPass, IsToken, is_token_byte, is_uri_byte, is_value_byte, is_ows, skip_ows, trim_ows, crlf, Field, IsField as IsFieldLine, print_field, print_version, print_end, RequestHead, IsRequestHead, print_request}
 use Rattle.httparse.specs.Spans.{name_and_value}
 use Rattle.httparse.proofs.TrimLemmas.{AllPass-reverse, trim_ows_space}
-use Rattle.kg_text.specs.Names.{is_tchar, is_token, name_of, IsName}
+use Rattle.kg_text.specs.Names.{is_tchar, is_token, IsName}
 use Rattle.kg_text.specs.Paths.{slash, is_path, is_path_byte, normal_form}
 use Rattle.kg_message.specs.HeaderLists.{is_named}
 use Rattle.kg_message.specs.declared.header.Header.{Header}
@@ -31,7 +29,7 @@ use Rattle.kg_wire.specs.declared.head.Head.{Head}
 use Rattle.kg_wire.specs.FieldLines.{content_length, stated_length, connection, field_line, field_lines, line_end}
 use Rattle.kg_wire.specs.Messages.{most_head, most_body, Message, header_of, head_of, request_with}
 use Rattle.kg_wire.specs.Targets.{is_question, is_query_byte, is_target, target_path, target_query}
-use Rattle.kg_wire.specs.UpstreamText.{forwarded_for, forwarded_value, forwarded_fields, client_fields, sent_fields, upstream_head, upstream_text}
+use Rattle.kg_wire.specs.UpstreamText.{forwarded_for, forwarded_value, client_fields, sent_fields, upstream_head}
 use Rattle.kg_wire.specs.ValidParts.{IsValue, IsField, HasNone, IsAddress, AreParts, IsReadBack}
 use Rattle.kg_wire.proofs.ChecksLemmas.{both}
 use Rattle.kg_wire.proofs.UpstreamLemmas.{joined_values}

@@ -1,6 +1,6 @@
 -- The requests of a connection as they are spelt (RFC 9112, sections 2 to 6): a head, and a body whose
 -- length the head states. The grammar of a head is httparse's.
-use Rattle.std.specs.Prelude.{◌≡◌, ℕ, ◌≤◌, List, [], ◌++◌, length, map, Option, Some, unwrap_or, codes}
+use Rattle.std.specs.Prelude.{◌≡◌, ℕ, ◌≤◌, List, [], ◌++◌, length, map, Some, unwrap_or, codes}
 use Rattle.std.specs.List.{flat_map, AllByRecursion}
 use Rattle.std.specs.Result.{result_unwrap_or}
 use Rattle.std.specs.Str.{str_to_ascii_lowercase}

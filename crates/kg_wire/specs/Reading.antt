@@ -84,18 +84,18 @@ Ends at held_before held_now left_before left_now NoMemory = ⊤
 Ends at held_before held_now left_before left_now e =
     Grows held_before held_now left_before left_now × Refuses at held_now left_now e
 
--- the answer is this request or the end, or it was kept from being had by the source or by want of memory
-abbrev pub IsUnlessKept : Result (Option Request) ReadError → Option Request → Type 0
-IsUnlessKept (Ok given) meant = given ≡ meant
-IsUnlessKept (Err e) meant = IsKept e
+-- the answer is this request or the end, unless a fault of the source or want of memory prevented it
+abbrev pub IsUnlessPrevented : Result (Option Request) ReadError → Option Request → Type 0
+IsUnlessPrevented (Ok given) meant = given ≡ meant
+IsUnlessPrevented (Err e) meant = IsPrevented e
   where
-    IsKept : ReadError → Type 0
-    IsKept (Bad place) = ⊥
-    IsKept HeadTooLarge = ⊥
-    IsKept BodyTooLarge = ⊥
-    IsKept (Cut have) = ⊥
-    IsKept ReadFault = ⊤
-    IsKept NoMemory = ⊤
+    IsPrevented : ReadError → Type 0
+    IsPrevented (Bad place) = ⊥
+    IsPrevented HeadTooLarge = ⊥
+    IsPrevented BodyTooLarge = ⊥
+    IsPrevented (Cut have) = ⊥
+    IsPrevented ReadFault = ⊤
+    IsPrevented NoMemory = ⊤
 
 -- ---- the steps of a reading
 

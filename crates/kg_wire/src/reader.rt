@@ -4,7 +4,7 @@ ghost use Rattle.std.specs.Prelude.{◌≡◌, ◌≤◌, ◌<◌, ◌↔◌, Li
 ghost use Rattle.kg_outside.specs.Causes.{Rose};
 ghost use Rattle.kg_outside.specs.Moves.{with_front};
 ghost use Rattle.kg_wire.specs.Messages.{most_head, Message, print_message, request_of, IsRequest};
-ghost use Rattle.kg_wire.specs.Reading.{Grows, FillsLine, FindsHead, FindsStart, IsStart, Takes, Gives, Ends, IsUnlessKept, error_of};
+ghost use Rattle.kg_wire.specs.Reading.{Grows, FillsLine, FindsHead, FindsStart, IsStart, Takes, Gives, Ends, IsUnlessPrevented, error_of};
 ghost use Rattle.kg_wire.specs.declared.held.FillError.{FillError as FillFailure};
 ghost use Rattle.kg_wire.specs.declared.reader.ReadError.{ReadError as AnError};
 ghost use Rattle.kg_wire.specs.declared.reader.ReadError.TheVariants.{NoMemory as OutOfMemory};
@@ -114,8 +114,8 @@ impl Reader {
         ensures err { self.old.error ≡ None → IfErr result (Ends self.old.at self.old.held self.new.held (S.left source.old) (S.left source.new)) }
         ensures reads { (m : Message) (rest : List ℕ) → self.old.error ≡ None → IsRequest m
             → with_front self.old.held (S.left source.old) ≡ Some (print_message m ++ rest)
-            → IsUnlessKept result (Some (request_of self.old.address m)) }
-        ensures ended { self.old.error ≡ None → with_front self.old.held (S.left source.old) ≡ Some [] → IsUnlessKept result None }
+            → IsUnlessPrevented result (Some (request_of self.old.address m)) }
+        ensures ended { self.old.error ≡ None → with_front self.old.held (S.left source.old) ≡ Some [] → IsUnlessPrevented result None }
         ensures again { (e : AnError) → self.old.error ≡ Some e → (result ≡ Err e) × (self.new ≡ self.old) × (source.new ≡ source.old) }
         ensures stays { IfErr result (λ e. self.new.error ≡ Some e) }
         ensures fresh { OnOk result (self.new.error ≡ None) }

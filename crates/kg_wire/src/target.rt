@@ -1,10 +1,11 @@
 //! The target of a request: a path, and then optionally `?` and a query.
 
-ghost use Rattle.std.specs.Prelude.{◌≡◌, ◌==◌, ◌≤◌, length, slice_index};
+ghost use Rattle.std.specs.Prelude.{◌≡◌, ◌≤◌, length};
 ghost use Rattle.std.specs.Option.{option_copied};
 ghost use Rattle.std.specs.List.{list_all, position_or_len, after_first};
-ghost use Rattle.kg_text.specs.Paths.{slash, is_path, is_path_byte};
 ghost use Rattle.kg_wire.specs.Targets.{is_question, is_query_byte, target_path, target_query, is_target};
+
+use kg_text::is_path;
 
 /// Is it a path, and then optionally `?` and a query?
 pub fn is_target(target: &[u8]) -> bool
@@ -29,30 +30,6 @@ pub fn target_query(target: &[u8]) -> Option<&[u8]>
     } else {
         None
     }
-}
-
-fn is_path(path: &[u8]) -> bool
-    ensures { result ≡ is_path path.now }
-{
-    begins_with_slash(path) && are_path_bytes(path)
-}
-
-fn begins_with_slash(path: &[u8]) -> bool
-    ensures { result ≡ (slice_index path.now 0 == slash) }
-{
-    path.first() == Some(&b'/')
-}
-
-fn are_path_bytes(path: &[u8]) -> bool
-    ensures { result ≡ list_all is_path_byte path.now }
-{
-    path.iter().all(|b| is_path_byte(*b))
-}
-
-fn is_path_byte(b: u8) -> bool
-    ensures { result ≡ is_path_byte b }
-{
-    b.is_ascii_graphic() && !b"?#".contains(&b)
 }
 
 fn is_query(query: &[u8]) -> bool

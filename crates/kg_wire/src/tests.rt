@@ -87,7 +87,7 @@ fn lengths_and_addresses_are_passed_on(rt: HostRuntime) -> Result<(), Fail> {
 }
 
 fn no_route(alloc: Global, bodiless: bool, keeping: Keeping) -> Result<String, Fail> {
-    let reply = message(alloc, 404, b"no Route matched with those values")?;
+    let reply = message(alloc, 404, "no Route matched with those values".as_bytes())?;
     text_of(alloc, &render_response(alloc, &reply, bodiless, keeping)?)
 }
 

@@ -1,4 +1,4 @@
-use Rattle.std.proofs.Common.{◌≡◌, ◌<◌, true, false, length, sym, ap, ◌∙◌, arith}
+use Rattle.std.proofs.Common.{◌≡◌, true, false, length, sym, ap, ◌∙◌, arith}
 use denote.Enum.Bare.{sameb}
 use Rattle.httparse.specs.contracts.Error.{the_type}
 use Rattle.httparse.specs.declared.Error.TheVariants.{TooManyHeaders}

@@ -1,4 +1,4 @@
-use Rattle.std.proofs.Common.{◌≡◌, ◌-◌, ◌≤◌, length, take, drop}
+use Rattle.std.proofs.Common.{◌≡◌, ◌-◌, length, take, drop}
 use Rattle.kg_outside.specs.Moves.{with_end}
 use Rattle.kg_wire.proofs.write.write_whole.Given as goal
 
