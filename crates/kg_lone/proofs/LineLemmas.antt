@@ -6,7 +6,7 @@ use Rattle.std.proofs.lemmas.List.{take_more, take_at, length-append, length-tak
 use Rattle.std.proofs.lemmas.List.Folds.{prefix_len-append, length-prefix_len}
 use Rattle.std.proofs.Math.Seq.{drop-append-add}
 use Rattle.kg_outside.specs.Moves.{with_front}
-use Rattle.kg_lone.specs.Reading.{is_line_feed, line_of, after_line, IsFirstLine}
+use Rattle.kg_lone.specs.FirstLine.{is_line_feed, line_of, after_line, IsFirstLine}
 
 -- where a front has no line feed, the first one is that of the rest
 feed_free_append : (line rest : List ℕ) → position_or_len is_line_feed line ≡ length line
