@@ -1,7 +1,6 @@
 -- What the first line of a dry run declares, at a time and with the ids that were drawn (this project's
 -- own).
-use Rattle.std.specs.Prelude.{◌≡◌, ℕ, ◌⊎◌, List, [], Option, Some, None, Result, IfOk}
-use Rattle.kg_text.specs.declared.error.NoMemory.{NoMemory}
+use Rattle.std.specs.Prelude.{◌≡◌, ℕ, ◌⊎◌, List, [], Option, Some, None}
 use Rattle.kg_router.specs.RouterRows.{HasDistinctRoutes, RouterRows}
 use Rattle.kg_lone.specs.Declaration.{IsDeclaration}
 use Rattle.kg_lone.specs.Rows.{AreRows}

@@ -1,10 +1,11 @@
 -- The exit statuses of a run (this project's own: docs/BEHAVIOUR.md, "Exit statuses").
 use Rattle.std.specs.Prelude.{◌≡◌, ℕ, ◌⊎◌, List, [], ◌∷◌, ◌++◌, codes, Option, Some, None}
-use Rattle.kg_lone.specs.Declaration.{IsDeclaration}
+use Rattle.kg_lone.specs.Declared.{IsDeclared}
 use Rattle.kg_lone.specs.DryText.{WritesText, last_text}
 use Rattle.kg_lone.specs.FirstLine.{line_of, after_line}
 use Rattle.kg_lone.specs.declared.dry.End.{End}
 use Rattle.kg_lone.specs.declared.dry.End.TheVariants.{Closed, Asked, Spent, Bad, Cut, Refused}
+use Rattle.kg_lone.specs.declared.rows.Rows.{Rows}
 
 -- the one word `dry`
 abbrev pub IsDryWords : List (List ℕ) → Type 0
@@ -38,6 +39,11 @@ pub record WritesWhole (Drew : List (List ℕ) → Type 0) (Read : List ℕ → 
   pub end : End
   pub ending : status ≡ status_of end
   pub writes : WritesText Drew Read bytes before now end
+
+-- what was found in the first line of these bytes with these ids, and what is left behind it
+abbrev pub FindsFirst : ℕ → List ℕ → Option (List ℕ) → List (List ℕ) → Option Rows → Type 0
+FindsFirst now bytes left drawn (Some rows) = IsDeclared now (line_of bytes) drawn (Some rows) × (left ≡ Some (after_line bytes))
+FindsFirst now bytes left drawn None = IsDeclared now (line_of bytes) drawn None
 
 -- a message was refused or cut
 abbrev pub IsBroken : End → Type 0

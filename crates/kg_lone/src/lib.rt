@@ -3,6 +3,7 @@
 #![tactic(auto)]
 
 mod declaration;
+mod declared;
 mod dry;
 mod echo;
 mod line;
