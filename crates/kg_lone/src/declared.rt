@@ -47,5 +47,5 @@ fn have_distinct_ids(alloc: Global, routes: &[Route]) -> Result<bool, NoMemory>
 fn ids_of(alloc: Global, routes: &[Route]) -> Result<HashSet<Id>, AllocError>
     ensures { IfOk result (λ ids. hash_set_len ids ≡ distinct_count nat_eq (map (λ route. route.id) routes.now)) }
 {
-    routes.iter().map(|route| route.id).collect(HashSet::new(alloc))
+    routes.iter().map(|route| route.id).collect(alloc)
 }
