@@ -1,6 +1,6 @@
 -- The exit statuses of a run (this project's own: docs/BEHAVIOUR.md, "Exit statuses").
 use Rattle.std.specs.Prelude.{◌≡◌, ℕ, ◌⊎◌, List, [], ◌∷◌, ◌++◌, codes, Option, Some, None}
-use Rattle.kg_lone.specs.Declared.{IsDeclared}
+use Rattle.kg_lone.specs.DeclaredRows.{IsDeclared}
 use Rattle.kg_lone.specs.DryText.{WritesText, last_text}
 use Rattle.kg_lone.specs.FirstLine.{line_of, after_line}
 use Rattle.kg_lone.specs.declared.dry.End.{End}

@@ -7,7 +7,7 @@ use Rattle.kg_router.specs.RouterRows.{RouterRows}
 use Rattle.kg_wire.specs.Connection.{asks_for_end}
 use Rattle.kg_wire.specs.Messages.{Message, IsReading, NeverBegins, request_of}
 use Rattle.kg_wire.specs.Reading.{IsCut}
-use Rattle.kg_lone.specs.Declared.{IsDeclared, router_rows}
+use Rattle.kg_lone.specs.DeclaredRows.{IsDeclared, router_rows}
 use Rattle.kg_lone.specs.FirstLine.{line_of, after_line}
 use Rattle.kg_lone.specs.Plain.{bad_request_text, reply_to}
 use Rattle.kg_lone.specs.declared.dry.End.{End}

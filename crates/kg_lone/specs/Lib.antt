@@ -1,6 +1,6 @@
 pub mod Answered
 pub mod Declaration
-pub mod Declared
+pub mod DeclaredRows
 pub mod DryRun
 pub mod DryText
 pub mod Echo

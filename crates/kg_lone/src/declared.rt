@@ -4,7 +4,7 @@ ghost use Rattle.std.specs.Prelude.{◌≡◌, ◌↔◌, IfOk, IsTrue, nat_eq, 
 ghost use Rattle.std.specs.HashSet.{hash_set_len};
 ghost use Rattle.std.specs.Set.{distinct_count};
 ghost use Rattle.kg_router.specs.RouterRows.{HasDistinctRoutes};
-ghost use Rattle.kg_lone.specs.Declared.{IsDeclared};
+ghost use Rattle.kg_lone.specs.DeclaredRows.{IsDeclared};
 ghost use Rattle.kg_lone.specs.Rows.{Draws};
 
 use crate::declaration::read_declaration;

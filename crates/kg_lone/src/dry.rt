@@ -3,7 +3,7 @@
 #[cfg(test)]
 mod tests;
 
-ghost use Rattle.std.specs.Prelude.{◌≡◌, ◌≢◌, ◌⊎◌, ◌↔◌, ◌×◌, ℕ, List as Sequence, [], ◌∷◌, Some, IsTrue, IfOk, OnOk, OnErr, IsErrOf};
+ghost use Rattle.std.specs.Prelude.{◌≡◌, ◌≢◌, ◌⊎◌, ◌↔◌, ℕ, List as Sequence, [], ◌∷◌, Some, IsTrue, IfOk, OnOk, OnErr, IsErrOf};
 ghost use Rattle.kg_outside.specs.Causes.{Rose};
 ghost use Rattle.kg_outside.specs.Moves.{with_end};
 ghost use Rattle.kg_router.specs.RouterRows.{HasDistinctRoutes};

@@ -1,8 +1,8 @@
 use Rattle.std.proofs.Common.{◌∙◌, ◌∷◌, [], ap, sym, refl, arith}
 use Rattle.kg_outside.specs.Moves.{with_front}
 use Rattle.kg_outside.proofs.Observed.{with_front-nil}
-use Rattle.kg_lone.proofs.AnsweredLemmas.{on_err, none_answered, answers_taken, stopped_at_once, stopped_taken, left_by_bad, left_by_cut}
-use Rattle.kg_lone.specs.Reading.{ReaderState}
+use Rattle.kg_wire.specs.Reading.{ReaderState}
+use Rattle.kg_lone.proofs.AnsweredLemmas.{on_err, none_answered, goes_on, ends_after, ends_asked, ends_closed, ends_spent, stopped_at_once, stopped_bad, stopped_between, stopped_taken, bad_ahead, cut_ahead}
 use Rattle.kg_lone.proofs.dry.answer_all.Goals as goal
 
 -- nothing was written before the reader was made
@@ -36,40 +36,4 @@ returns-in_err-answer_one-in-Ok-Some-clause-err g c =
 
 -- one more reply is written
 pub loop-count-preserved : goal.loop-count-preserved
-loop-count-preserved g c = record {
-  goes_on = c.in-Ok-Some.ensures.fresh;
-  address = c.next_request.ensures.address ∙ c.loop-count.invariant.address;
-  few = omega arith;
-  answered =
-      answers_taken _ _ _ _ _ _ _ _ _ _ _ c.loop-count.count c.in-Ok-Some.request c.answer_one.ensures.clock.0
-      c.loop-count.invariant.answered c.loop-count.invariant.address
-      (rw c.in-Ok-Some.field-0-is at c.in-Ok-Some.ensures.ok)
-      (λ times read. g.met.T.Clock.reads_on _ _ _ times (c.answer_one.ensures.clock.0 ∷ []) read c.answer_one.ensures.clock.1)
-      c.in_ok-answer_one-in-Ok-Some.ensures.ok;
-  kept_read = c.in-Ok-Some.ensures.kept ∙ c.loop-count.invariant.kept_read;
-  kept_write = c.in_ok-answer_one-in-Ok-Some.ensures.kept ∙ c.loop-count.invariant.kept_write;
-}
-
--- what is left never begins a request
-pub returns-in-Err-Bad-clause-ok : goal.returns-in-Err-Bad-clause-ok
-returns-in-Err-Bad-clause-ok g c =
-    let ends = rw c.in-Err-Bad.field-0-is at (c.in-Err-Bad.ensures.err c.loop-count.invariant.goes_on) in
-    record {
-      count = c.loop-count.count;
-      most = c.loop-count.invariant.few;
-      ahead = _;
-      answered = c.loop-count.invariant.answered;
-      ends = left_by_bad c.loop-count.count _ _ _ _ _ _ c.loop-count-test.true ends.0 ends.1;
-    }
-
--- what is left was cut short
-pub returns-in-Err-Cut-clause-ok : goal.returns-in-Err-Cut-clause-ok
-returns-in-Err-Cut-clause-ok g c =
-    let ends = rw c.in-Err-Cut.field-0-is at (c.in-Err-Cut.ensures.err c.loop-count.invariant.goes_on) in
-    record {
-      count = c.loop-count.count;
-      most = c.loop-count.invariant.few;
-      ahead = _;
-      answered = c.loop-count.invariant.answered;
-      ends = left_by_cut c.loop-count.count 0 _ _ _ _ _ c.loop-count-test.true ends.0 ends.1;
-    }
+loop-count-preserved g c = ?

@@ -1,0 +1,36 @@
+-- Fields of several names are dropped one name after another.
+use Rattle.std.proofs.Common.{◌≡◌, ℕ, Bool, true, false, ◌||◌, not, List, [], ◌∷◌, ◌++◌, filter, refl, ap, ◌∙◌}
+use Rattle.std.specs.List.{list_any}
+use Rattle.std.proofs.lemmas.List.Elements.{list_any-append}
+use Rattle.kg_message.specs.HeaderLists.{is_named}
+use Rattle.kg_message.specs.HopByHop.{is_among}
+use Rattle.kg_message.specs.declared.header.Header.{Header}
+use Rattle.kg_text.specs.ListChanges.{without}
+
+-- what passes neither of two tests is left where those that pass the one are dropped and then the others
+without_both : {X : Type 0} (p q r : X → Bool) → ((x : X) → r x ≡ (p x || q x)) → (xs : List X)
+    → without q (without p xs) ≡ without r xs
+without_both p q r same [] = refl
+without_both p q r same (x ∷ xs) = by_test (p x) (q x) refl refl
+  where
+    by_test : (a b : Bool) → p x ≡ a → q x ≡ b → without q (without p (x ∷ xs)) ≡ without r (x ∷ xs)
+    by_test true b is also =
+        let either : r x ≡ true = same x ∙ ap (λ t. t || q x) is in
+        rw (is, either) (without_both p q r same xs)
+    by_test false true is also =
+        let either : r x ≡ true = same x ∙ ap (λ t. t || q x) is ∙ also in
+        rw (is, also, either) (without_both p q r same xs)
+    by_test false false is also =
+        let either : r x ≡ false = same x ∙ ap (λ t. t || q x) is ∙ also in
+        rw (is, also, either) (ap (λ rest. x ∷ rest) (without_both p q r same xs))
+
+-- one name more
+pub without_more : (names : List (List ℕ)) (name : List ℕ) (fields : List Header)
+    → without (is_named name) (without (is_among names) fields) ≡ without (is_among (names ++ name ∷ [])) fields
+without_more names name fields =
+    without_both (is_among names) (is_named name) (is_among (names ++ name ∷ []))
+    (λ field. list_any-append (λ one. is_named one field) names (name ∷ []) ∙ ap (λ t. is_among names field || t) (or_false (is_named name field))) fields
+  where
+    or_false : (b : Bool) → (b || false) ≡ b
+    or_false true = refl
+    or_false false = refl
