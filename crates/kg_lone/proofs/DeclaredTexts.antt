@@ -114,7 +114,8 @@ are_distinct-push (x ∷ xs) y distinct new =
 abbrev pub in_front : List (Bor (List ℕ)) → ℕ → List (List ℕ)
 in_front texts i = map (λ text. text.now) (take i texts)
 
-one_more_in_front : (texts : List (Bor (List ℕ))) (i : ℕ) (d : Bor (List ℕ)) → i < length texts → in_front texts (i + 1) ≡ in_front texts i ++ (get_or texts i d).now ∷ []
+-- one more of them
+pub one_more_in_front : (texts : List (Bor (List ℕ))) (i : ℕ) (d : Bor (List ℕ)) → i < length texts → in_front texts (i + 1) ≡ in_front texts i ++ (get_or texts i d).now ∷ []
 one_more_in_front texts i d within = ap (map (λ text. text.now)) (take_more texts i d within) ∙ map-append (λ text. text.now) (take i texts) (get_or texts i d ∷ [])
 
 -- which texts are among those in front, with one more of them

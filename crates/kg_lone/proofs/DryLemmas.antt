@@ -1,17 +1,18 @@
 -- The text of a dry run: it is determined by what was read, and a run that was cut short wrote a front of it.
-use Rattle.std.proofs.Common.{◌≡◌, ℕ, ◌+◌, ◌<◌, ◌≤◌, ◌==◌, ◌⊎◌, inl, inr, List, [], ◌∷◌, ◌++◌, Option, Some, None, Result, Ok, Err, IfOk, OnErr, length, refl, sym, ap, ◌∙◌, subst, arith}
+use Rattle.std.proofs.Common.{◌≡◌, ℕ, ◌+◌, ◌<◌, ◌≤◌, ◌==◌, ◌⊎◌, inl, inr, List, [], ◌∷◌, ◌++◌, Option, Some, None, Result, Ok, Err, IfOk, IfSome, OnErr, length, refl, sym, ap, ◌∙◌, subst, arith}
 use Rattle.std.proofs.lemmas.List.{append_assoc, append-nil, length-append, nil_from_length}
 use Rattle.std.specs.List.{flat_map}
 use Rattle.kg_outside.specs.Moves.{with_front, with_end}
+use Rattle.kg_outside.proofs.Observed.{with_end-append}
 use Rattle.kg_router.specs.RouterRows.{HasDistinctRoutes, RouterRows}
 use Rattle.kg_wire.specs.Messages.{Message, IsReading, BeginsNoRequest, print_message, request_of}
 use Rattle.kg_wire.proofs.MessageLemmas.{reading_front, reading_most, reading_same}
 use Rattle.kg_lone.specs.Answered.{AnswersAll, AnswersFront, FrontOfReplies}
-use Rattle.kg_lone.specs.Declaration.{IsDeclaration, drafts_of}
+use Rattle.kg_lone.specs.Declaration.{IsDeclaration, drafts_of, most_line}
 use Rattle.kg_lone.specs.DeclaredRows.{Declares, IsDeclared, router_rows}
 use Rattle.kg_lone.specs.DryRun.{DifferAtEnd, FindsFirst, IsBroken, status_of}
 use Rattle.kg_lone.specs.DryText.{BeginsText, EndsSo, IsAnsweredRun, IsDryText, IsFront, IsRefusedRun, WritesFront, WritesText, last_text, local_address, most_requests, refusal_line, texts}
-use Rattle.kg_lone.specs.FirstLine.{line_of, after_line}
+use Rattle.kg_lone.specs.FirstLine.{IsFirstLine, line_of, after_line}
 use Rattle.kg_lone.specs.Plain.{reply_to}
 use Rattle.kg_lone.specs.Rows.{AreRows, row_count, rows_of}
 use Rattle.kg_lone.specs.declared.declaration.ServiceDraft.{ServiceDraft}
@@ -21,7 +22,7 @@ use Rattle.kg_lone.specs.declared.rows.Rows.{Rows}
 use Rattle.kg_lone.proofs.EndLemmas.{front_of_whole, is_last, one_end, same_whole}
 
 -- a length can't be past a limit and within it
-pub past_limit : (limit n : ℕ) → limit < n → n ≤ limit → ⊥
+past_limit : (limit n : ℕ) → limit < n → n ≤ limit → ⊥
 past_limit limit n past within = omega arith
 
 -- a line declares one list of services
@@ -77,6 +78,24 @@ refused_never now time line drawn all more rows at (inr doubled) is grown =
     (sym (rows_same time line drawn all more doubled.drafts is.drafts doubled.rows rows doubled.is
     (subst (λ n. AreRows n doubled.drafts drawn doubled.rows) at doubled.made) is.is is.made grown))
     is.distinct)
+
+-- what is found in the first line
+pub finds_first : (now limit : ℕ) (bytes line read : List ℕ) (left : Option (List ℕ)) (drawn : List (List ℕ)) (found : Option Rows)
+    → IsFirstLine limit bytes left line → read ≡ line → IsDeclared now read drawn found → FindsFirst now bytes left drawn found
+finds_first now limit bytes line read left drawn (Some rows) first same is =
+    (subst (λ text. Declares now text drawn rows) (same ∙ first.is) is, first.after)
+finds_first now limit bytes line read left drawn None first same is =
+    subst (λ text. IsDeclared now text drawn None) (same ∙ first.is) is
+
+-- a line past its limit declares nothing
+pub too_long : (now : ℕ) (bytes : List ℕ) → most_line < length (line_of bytes) → IsDeclared now (line_of bytes) [] None
+too_long now bytes past = inl (record { none = λ drafts is. past_limit most_line (length (line_of bytes)) past is.short; ids = refl })
+
+-- the routes that a line declares have distinct ids
+pub distinct_of : (now : ℕ) (line : List ℕ) (drawn : List (List ℕ)) (found : Option Rows) → IsDeclared now line drawn found
+    → IfSome found (λ (rows : Rows). HasDistinctRoutes rows.routes)
+distinct_of now line drawn (Some rows) is = is.distinct
+distinct_of now line drawn None is = tt
 
 -- the replies to some requests and then to others
 texts-append : (rows : RouterRows) (answered : ℕ) (ms zs : List Message)

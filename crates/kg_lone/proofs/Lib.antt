@@ -1,6 +1,7 @@
 mod DeclaredMembers
 mod DeclaredRows
 mod DeclaredTexts
+mod IdLemmas
 mod LineLemmas
 mod UpstreamLemmas
 pub mod AnsweredLemmas

@@ -24,6 +24,11 @@ without_both p q r same (x ∷ xs) = by_test (p x) (q x) refl refl
         let either : r x ≡ false = same x ∙ ap (λ t. t || q x) is ∙ also in
         rw (is, also, either) (ap (λ rest. x ∷ rest) (without_both p q r same xs))
 
+-- no name
+pub without_none : (fields : List Header) → without (is_among []) fields ≡ fields
+without_none [] = refl
+without_none (field ∷ fields) = ap (λ rest. field ∷ rest) (without_none fields)
+
 -- one name more
 pub without_more : (names : List (List ℕ)) (name : List ℕ) (fields : List Header)
     → without (is_named name) (without (is_among names) fields) ≡ without (is_among (names ++ name ∷ [])) fields

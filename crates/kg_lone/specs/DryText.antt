@@ -1,6 +1,6 @@
 -- The dry run: its first line declares the rows, and each request after it gets the plain gateway's
 -- reply (this project's own: docs/BEHAVIOUR.md, "The dry run").
-use Rattle.std.specs.Prelude.{◌≡◌, ℕ, ◌+◌, ◌<◌, ◌≤◌, ◌==◌, ◌⊎◌, Bool, true, false, List, [], ◌∷◌, ◌++◌, length, codes, Option}
+use Rattle.std.specs.Prelude.{◌≡◌, ℕ, ◌+◌, ◌<◌, ◌≤◌, ◌==◌, ◌⊎◌, Bool, true, false, List, [], ◌∷◌, ◌++◌, length, codes, Option, None, Some}
 use Rattle.std.specs.List.{AllByRecursion}
 use Rattle.kg_outside.specs.Moves.{with_end}
 use Rattle.kg_router.specs.RouterRows.{RouterRows}

@@ -42,6 +42,10 @@ is_bodiless request = bytes_eq request.method (codes "HEAD")
 unfoldable pub reply_to : RouterRows → Bool → Request → List ℕ
 reply_to rows last request = reply_text (plain rows request) (is_bodiless request) (keeping_of last request)
 
--- the text that answers a message which is refused
+-- the reply to a message that is refused
+unfoldable pub bad_request : Response
+bad_request = gateway_message 400 (codes "Bad request")
+
+-- its text: the connection ends with it
 unfoldable pub bad_request_text : List ℕ
-bad_request_text = reply_text (gateway_message 400 (codes "Bad request")) false Close
+bad_request_text = reply_text bad_request false Close

@@ -1,8 +1,7 @@
 //! The rows that the first line of a dry run declares.
 
-ghost use Rattle.std.specs.Prelude.{◌≡◌, ◌↔◌, IfOk, IsTrue, nat_eq, length, map};
-ghost use Rattle.std.specs.HashSet.{hash_set_len};
-ghost use Rattle.std.specs.Set.{distinct_count};
+ghost use Rattle.std.specs.Prelude.{◌↔◌, IfOk, IsTrue, map, nat_eq};
+ghost use Rattle.std.specs.HashSet.{IsFromIterResult};
 ghost use Rattle.kg_router.specs.RouterRows.{HasDistinctRoutes};
 ghost use Rattle.kg_lone.specs.DeclaredRows.{IsDeclared};
 ghost use Rattle.kg_lone.specs.Rows.{Draws};
@@ -45,7 +44,7 @@ fn have_distinct_ids(alloc: Global, routes: &[Route]) -> Result<bool, NoMemory>
 }
 
 fn ids_of(alloc: Global, routes: &[Route]) -> Result<HashSet<Id>, AllocError>
-    ensures { IfOk result (λ ids. hash_set_len ids ≡ distinct_count nat_eq (map (λ route. route.id) routes.now)) }
+    ensures { IfOk result (IsFromIterResult nat_eq (map (λ route. route.id) routes.now)) }
 {
     routes.iter().map(|route| route.id).collect(alloc)
 }

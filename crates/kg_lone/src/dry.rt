@@ -3,7 +3,7 @@
 #[cfg(test)]
 mod tests;
 
-ghost use Rattle.std.specs.Prelude.{◌≡◌, ◌≢◌, ◌⊎◌, ◌↔◌, ℕ, List as Sequence, [], ◌∷◌, Some, IsTrue, IfOk, OnOk, OnErr, IsErrOf};
+ghost use Rattle.std.specs.Prelude.{◌≡◌, ◌≢◌, ◌⊎◌, ◌↔◌, ℕ, List as Sequence, [], ◌∷◌, Some, IsTrue, IfOk, IfSome, OnOk, OnErr, IsErrOf};
 ghost use Rattle.kg_outside.specs.Causes.{Rose};
 ghost use Rattle.kg_outside.specs.Moves.{with_end};
 ghost use Rattle.kg_router.specs.RouterRows.{HasDistinctRoutes};
@@ -169,6 +169,7 @@ fn declared<S: Source, I: Ids>(
 ) -> Result<Option<Rows>, Stop>
     ensures rows { Draws I.draws ids.old ids.new result
         (λ drawn found. (bytes : Sequence ℕ) → S.left source.old ≡ Some bytes → FindsFirst now bytes (S.left source.new) drawn found) }
+    ensures distinct { IfOk result (λ found. IfSome found (λ rows. HasDistinctRoutes rows.routes)) }
     ensures kept { OnOk result (S.faults source.new ≡ S.faults source.old) }
     ensures read { IsErrOf result Stop.ReadFault → Rose (S.faults source.old) (S.faults source.new) }
     ensures write { IsErrOf result Stop.WriteFault → ⊥ }

@@ -3,7 +3,7 @@
 ghost use Rattle.std.specs.Prelude.{◌≡◌, IfOk};
 ghost use Rattle.kg_router.specs.Found.{choice_at};
 ghost use Rattle.kg_router.specs.RouterRows.{HasDistinctRoutes};
-ghost use Rattle.kg_lone.specs.Plain.{bad_request_text, is_bodiless, no_route, plain, reply_to, upstream_message};
+ghost use Rattle.kg_lone.specs.Plain.{bad_request, bad_request_text, is_bodiless, no_route, plain, reply_to, upstream_message};
 
 use crate::echo::echo_of;
 use crate::upstream_fields::upstream_fields;
@@ -54,8 +54,15 @@ fn no_route(alloc: Global) -> Result<Response, NoMemory>
 pub fn bad_request_text(alloc: Global) -> Result<Bytes, NoMemory>
     ensures { IfOk result (λ text. text ≡ bad_request_text) }
 {
-    let response = message(alloc, 400, b"Bad request")?;
+    let response = bad_request(alloc)?;
     render_response(alloc, &response, false, Keeping::Close)
+}
+
+#[tactic(auto, unfolding(crate::specs::Plain::bad_request))]
+fn bad_request(alloc: Global) -> Result<Response, NoMemory>
+    ensures { IfOk result (λ response. response ≡ bad_request) }
+{
+    message(alloc, 400, b"Bad request")
 }
 
 // The message that goes upstream.

@@ -36,4 +36,47 @@ returns-in_err-answer_one-in-Ok-Some-clause-err g c =
 
 -- one more reply is written
 pub loop-count-preserved : goal.loop-count-preserved
-loop-count-preserved g c = ?
+loop-count-preserved g c = record {
+  goes_on = c.in-Ok-Some.ensures.fresh;
+  address = c.next_request.ensures.address ∙ c.loop-count.invariant.address;
+  few = omega arith;
+  answered =
+      goes_on _ _ _ _ _ _ _ _ _ _ _ c.loop-count.count c.in-Ok-Some.request c.answer_one.ensures.clock.0
+      c.loop-count.invariant.answered c.loop-count.invariant.address
+      (rw c.in-Ok-Some.field-0-is at c.in-Ok-Some.ensures.ok)
+      (λ times read. g.met.T.Clock.reads_on _ _ _ times (c.answer_one.ensures.clock.0 ∷ []) read c.answer_one.ensures.clock.1)
+      c.in_ok-answer_one-in-Ok-Some.ensures.ok
+      (sym c.asks_for_end.ensures ∙ c.if-asks_for_end.false);
+  kept_read = c.in-Ok-Some.ensures.kept ∙ c.loop-count.invariant.kept_read;
+  kept_write = c.in_ok-answer_one-in-Ok-Some.ensures.kept ∙ c.loop-count.invariant.kept_write;
+}
+
+-- the end was asked for
+pub returns-then-asks_for_end-clause-ok : goal.returns-then-asks_for_end-clause-ok
+returns-then-asks_for_end-clause-ok g c =
+    ends_asked _ _ _ _ _ _ _ _ _ _ _ c.loop-count.count c.in-Ok-Some.request c.answer_one.ensures.clock.0
+    c.loop-count.invariant.answered c.loop-count-test.true c.loop-count.invariant.address
+    (rw c.in-Ok-Some.field-0-is at c.in-Ok-Some.ensures.ok)
+    (λ times read. g.met.T.Clock.reads_on _ _ _ times (c.answer_one.ensures.clock.0 ∷ []) read c.answer_one.ensures.clock.1)
+    c.in_ok-answer_one-in-Ok-Some.ensures.ok
+    (sym c.asks_for_end.ensures ∙ c.if-asks_for_end.true)
+
+-- a part of the text that answers a refused message is written
+pub returns-in_err-answer_bad-in-Err-Bad-clause-err : goal.returns-in_err-answer_bad-in-Err-Bad-clause-err
+returns-in_err-answer_bad-in-Err-Bad-clause-err g c =
+    let so_far = c.loop-count.invariant.answered in
+    let ends = rw c.in-Err-Bad.field-0-is at (c.in-Err-Bad.ensures.err c.loop-count.invariant.goes_on) in
+    let front = c.in_err-answer_bad-in-Err-Bad.ensures.err in
+    on_err _
+    (stopped_bad _ _ _ _ _ _ _ c.loop-count.count front.0 so_far c.loop-count.invariant.few
+    (bad_ahead so_far.messages c.loop-count.count _ _ _ _ _ _ so_far.on so_far.counted c.loop-count-test.true ends.0 ends.1)
+    front.1 front.2)
+
+-- all of it is
+pub returns-in-Err-Bad-clause-ok : goal.returns-in-Err-Bad-clause-ok
+returns-in-Err-Bad-clause-ok g c =
+    let so_far = c.loop-count.invariant.answered in
+    let ends = rw c.in-Err-Bad.field-0-is at (c.in-Err-Bad.ensures.err c.loop-count.invariant.goes_on) in
+    ends_after _ _ _ _ _ _ _ c.loop-count.count _ so_far c.loop-count.invariant.few
+    (bad_ahead so_far.messages c.loop-count.count _ _ _ _ _ _ so_far.on so_far.counted c.loop-count-test.true ends.0 ends.1)
+    c.in_ok-answer_bad-in-Err-Bad.ensures.ok

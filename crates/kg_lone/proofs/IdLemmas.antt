@@ -1,0 +1,14 @@
+-- No id stands twice where as many are collected into a set as there are.
+use Rattle.std.proofs.Common.{◌≡◌, ◌↔◌, ℕ, nat_eq, IsTrue, List, length, sym, ◌∙◌, AllPairs, ◌≢◌}
+use Rattle.std.specs.HashSet.{HashSet, IsFromIterResult, hash_set_len}
+use Rattle.std.specs.List.{IsDistinct}
+use Rattle.std.proofs.lemmas.Bool.Decides.{Decides-eqb}
+use Rattle.std.proofs.lemmas.Cmp.{nat_eq_equiv}
+use Rattle.std.proofs.lemmas.Map.Made.{AllPairs-from_IsDistinct, IsDistinct-from_AllPairs, hash_set_len-Decides}
+
+pub distinct_by_count : {S : Type 0} (xs : List ℕ) (ids : HashSet ℕ S) (len n : ℕ) → len ≡ hash_set_len ids → n ≡ length xs
+    → IsFromIterResult nat_eq xs ids → IsTrue (nat_eq len n) ↔ IsDistinct nat_eq xs
+distinct_by_count xs ids len n counted all from =
+    let decides = hash_set_len-Decides Decides-eqb nat_eq_equiv xs ids from in
+    rw (counted, all)
+    (λ same. IsDistinct-from_AllPairs Decides-eqb xs (decides.0 same), λ distinct. decides.1 (AllPairs-from_IsDistinct Decides-eqb xs distinct))
