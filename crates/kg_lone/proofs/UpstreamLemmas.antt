@@ -1,7 +1,7 @@
 -- Fields of several names are dropped one name after another.
 use Rattle.std.proofs.Common.{◌≡◌, ℕ, Bool, true, false, ◌||◌, not, List, [], ◌∷◌, ◌++◌, filter, refl, ap, ◌∙◌}
 use Rattle.std.specs.List.{list_any}
-use Rattle.std.proofs.lemmas.List.Elements.{list_any-append}
+use Rattle.std.proofs.lemmas.List.Folds.{list_any-append}
 use Rattle.kg_message.specs.HeaderLists.{is_named}
 use Rattle.kg_message.specs.HopByHop.{is_among}
 use Rattle.kg_message.specs.declared.header.Header.{Header}
@@ -11,18 +11,18 @@ use Rattle.kg_text.specs.ListChanges.{without}
 without_both : {X : Type 0} (p q r : X → Bool) → ((x : X) → r x ≡ (p x || q x)) → (xs : List X)
     → without q (without p xs) ≡ without r xs
 without_both p q r same [] = refl
-without_both p q r same (x ∷ xs) = by_test (p x) (q x) refl refl
+without_both p q r same (x ∷ xs) = by_test (p x) (q x) refl refl (without_both p q r same xs)
   where
-    by_test : (a b : Bool) → p x ≡ a → q x ≡ b → without q (without p (x ∷ xs)) ≡ without r (x ∷ xs)
-    by_test true b is also =
+    by_test : (a b : Bool) → p x ≡ a → q x ≡ b → without q (without p xs) ≡ without r xs → without q (without p (x ∷ xs)) ≡ without r (x ∷ xs)
+    by_test true b is also rest =
         let either : r x ≡ true = same x ∙ ap (λ t. t || q x) is in
-        rw (is, either) (without_both p q r same xs)
-    by_test false true is also =
+        rw (is, either) rest
+    by_test false true is also rest =
         let either : r x ≡ true = same x ∙ ap (λ t. t || q x) is ∙ also in
-        rw (is, also, either) (without_both p q r same xs)
-    by_test false false is also =
+        rw (is, also, either) rest
+    by_test false false is also rest =
         let either : r x ≡ false = same x ∙ ap (λ t. t || q x) is ∙ also in
-        rw (is, also, either) (ap (λ rest. x ∷ rest) (without_both p q r same xs))
+        rw (is, also, either) (ap (λ more. x ∷ more) rest)
 
 -- no name
 pub without_none : (fields : List Header) → without (is_among []) fields ≡ fields

@@ -1,6 +1,6 @@
 //! The rows that the first line of a dry run declares.
 
-ghost use Rattle.std.specs.Prelude.{◌↔◌, IfOk, IsTrue, map, nat_eq};
+ghost use Rattle.std.specs.Prelude.{◌≡◌, ◌↔◌, IfOk, IsTrue, map, nat_eq};
 ghost use Rattle.std.specs.HashSet.{IsFromIterResult};
 ghost use Rattle.kg_router.specs.RouterRows.{HasDistinctRoutes};
 ghost use Rattle.kg_lone.specs.DeclaredRows.{IsDeclared};
@@ -40,11 +40,18 @@ fn have_distinct_ids(alloc: Global, routes: &[Route]) -> Result<bool, NoMemory>
     ensures { IfOk result (λ distinct. IsTrue distinct ↔ HasDistinctRoutes routes.now) }
 {
     let ids = ids_of(alloc, routes)?;
-    Ok(ids.len() == routes.len())
+    let set = set_of(alloc, ids.as_slice())?;
+    Ok(set.len() == ids.len())
 }
 
-fn ids_of(alloc: Global, routes: &[Route]) -> Result<HashSet<Id>, AllocError>
-    ensures { IfOk result (IsFromIterResult nat_eq (map (λ route. route.id) routes.now)) }
+fn set_of(alloc: Global, ids: &[Id]) -> Result<HashSet<Id>, AllocError>
+    ensures { IfOk result (IsFromIterResult nat_eq ids.now) }
+{
+    ids.iter().copied().collect(alloc)
+}
+
+fn ids_of(alloc: Global, routes: &[Route]) -> Result<Vec<Id>, AllocError>
+    ensures { IfOk result (λ ids. ids.items ≡ map (λ route. route.id) routes.now) }
 {
     routes.iter().map(|route| route.id).collect(alloc)
 }

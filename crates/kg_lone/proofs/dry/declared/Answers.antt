@@ -20,7 +20,11 @@ returns-in-Ok-TooLong-clause-rows g c = record {
 
 -- the rows could not be made
 pub returns-in_err-declared_rows-in-Ok-Whole-clause-rows : goal.returns-in_err-declared_rows-in-Ok-Whole-clause-rows
-returns-in_err-declared_rows-in-Ok-Whole-clause-rows g c = ?
+returns-in_err-declared_rows-in-Ok-Whole-clause-rows g c = record {
+  drawn = c.declared_rows.ensures.drawn;
+  moved = c.declared_rows.ensures.moved;
+  makes = IfOk-err c.from_residual.result _ c.from_residual.ensures.0;
+}
 
 -- what the line declares
 pub returns-in_ok-declared_rows-in-Ok-Whole-clause-rows : goal.returns-in_ok-declared_rows-in-Ok-Whole-clause-rows

@@ -21,8 +21,8 @@ returns-in_err-write_whole-in-None-clause-err g c =
     (front_written _ _ _ _ c.refusal_line.ensures c.in_err-write_whole-in-None.ensures.err))
 
 -- the refusal is written
-pub returns-in_ok-write_whole-in-None-clause-ok : goal.returns-in_ok-write_whole-in-None-clause-ok
-returns-in_ok-write_whole-in-None-clause-ok g c bytes seen =
+pub returns-in-None-clause-ok : goal.returns-in-None-clause-ok
+returns-in-None-clause-ok g c bytes seen =
     let drew = c.in_ok-rows.ensures.rows in
     refusal_written _ _ bytes _ _ drew.drawn c.now-now.result drew.moved c.now-now.ensures
     (rw c.in-None.is at (drew.makes bytes seen))
