@@ -53,5 +53,9 @@ fn set_of(alloc: Global, ids: &[Id]) -> Result<HashSet<Id>, AllocError>
 fn ids_of(alloc: Global, routes: &[Route]) -> Result<Vec<Id>, AllocError>
     ensures { IfOk result (λ ids. ids.items ≡ map (λ route. route.id) routes.now) }
 {
-    routes.iter().map(|route| route.id).collect(alloc)
+    let mut ids = Vec::new(alloc);
+    for route in routes {
+        ids.push(route.id)?;
+    }
+    Ok(ids)
 }

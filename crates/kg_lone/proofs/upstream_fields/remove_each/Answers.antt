@@ -27,4 +27,4 @@ pub returns : goal.returns
 returns c =
     c.loop-name.invariant
     ∙ ap (λ names. without (is_among (map (λ name. name.now) names)) c.args.headers.now)
-    (take_all c.args.names.now c.loop-name.name-index (omega (arith, c.loop-name-test.false)))
+    (take_all c.loop-name.name-index c.args.names.now (omega arith))
