@@ -12,8 +12,8 @@ use Rattle.kg_wire.specs.Connection.{asks_for_end}
 use Rattle.kg_wire.specs.Messages.{Message, IsRequest, NeverBegins, BeginsNoRequest, print_message, request_of}
 use Rattle.kg_wire.specs.Reading.{ReaderState, Takes, Grows, Refuses, IsCut, IsEnded, IsNothing}
 use Rattle.kg_wire.specs.declared.reader.ReadError.TheVariants.{Bad as BadMessage, Cut as CutMessage}
-use Rattle.kg_lone.specs.Answered.{Answered, AnsweredOn, AnswersAll, AnswersFront, EndsAhead, OnlyLastMayAsk}
-use Rattle.kg_lone.specs.DryText.{EndsSo, GoOn, IsFront, asks, last_text, local_address, most_requests, texts}
+use Rattle.kg_lone.specs.Answered.{Answered, AnsweredOn, AnswersAll, AnswersFront, EndsAhead}
+use Rattle.kg_lone.specs.DryText.{GoOn, IsFront, asks, last_text, local_address, most_requests, texts}
 use Rattle.kg_lone.specs.Plain.{bad_request_text, reply_to}
 use Rattle.kg_lone.specs.declared.dry.End.{End}
 use Rattle.kg_lone.specs.declared.dry.End.TheVariants.{Closed, Asked, Spent, Bad, Cut}

@@ -11,7 +11,7 @@ use Rattle.kg_lone.specs.Answered.{AnswersAll, AnswersFront, FrontOfReplies}
 use Rattle.kg_lone.specs.Declaration.{IsDeclaration, drafts_of, most_line}
 use Rattle.kg_lone.specs.DeclaredRows.{Declares, IsDeclared, router_rows}
 use Rattle.kg_lone.specs.DryRun.{DifferAtEnd, FindsFirst, IsBroken, status_of}
-use Rattle.kg_lone.specs.DryText.{BeginsText, EndsSo, IsAnsweredRun, IsDryText, IsFront, IsRefusedRun, WritesFront, WritesText, last_text, local_address, most_requests, refusal_line, texts}
+use Rattle.kg_lone.specs.DryText.{BeginsText, EndsSo, IsDryText, IsFront, WritesFront, WritesText, last_text, local_address, most_requests, refusal_line, texts}
 use Rattle.kg_lone.specs.FirstLine.{IsFirstLine, line_of, after_line}
 use Rattle.kg_lone.specs.Plain.{reply_to}
 use Rattle.kg_lone.specs.Rows.{AreRows, row_count, rows_of}

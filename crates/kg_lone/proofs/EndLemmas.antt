@@ -1,6 +1,6 @@
 -- Where the answering of a connection's requests ends is determined by the bytes, but for one choice.
-use Rattle.std.proofs.Common.{◌≡◌, ℕ, ◌+◌, ◌<◌, ◌≤◌, ◌⊎◌, inl, inr, true, false, true≢false, List, [], ◌∷◌, ◌++◌, length, refl, sym, ap, ◌∙◌, subst, arith}
-use Rattle.std.proofs.lemmas.List.{append_assoc, append-nil, length-append, nil_from_length}
+use Rattle.std.proofs.Common.{◌≡◌, ℕ, ◌<◌, ◌≤◌, ◌⊎◌, inl, inr, false, true≢false, List, [], ◌∷◌, ◌++◌, length, refl, sym, ap, ◌∙◌, subst, arith}
+use Rattle.std.proofs.lemmas.List.{append_assoc, append-nil, length-append}
 use Rattle.kg_wire.specs.Messages.{Message, IsReading, BeginsNoRequest}
 use Rattle.kg_wire.proofs.MessageLemmas.{reading_front, reading_most, reading_same}
 use Rattle.kg_wire.proofs.NextLemmas.{message_some}

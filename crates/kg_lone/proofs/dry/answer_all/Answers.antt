@@ -2,7 +2,7 @@ use Rattle.std.proofs.Common.{◌∙◌, ◌∷◌, [], ap, sym, refl, arith}
 use Rattle.kg_outside.specs.Moves.{with_front}
 use Rattle.kg_outside.proofs.Observed.{with_front-nil}
 use Rattle.kg_wire.specs.Reading.{ReaderState}
-use Rattle.kg_lone.proofs.AnsweredLemmas.{on_err, none_answered, goes_on, ends_after, ends_asked, ends_closed, ends_spent, stopped_at_once, stopped_bad, stopped_between, stopped_taken, bad_ahead, cut_ahead}
+use Rattle.kg_lone.proofs.AnsweredLemmas.{on_err, none_answered, goes_on, ends_after, ends_asked, stopped_at_once, stopped_bad, stopped_taken, bad_ahead}
 use Rattle.kg_lone.proofs.dry.answer_all.Goals as goal
 
 -- nothing was written before the reader was made
