@@ -1,22 +1,26 @@
--- How the answered requests of a connection grow by one, and what is written when that is cut short.
-use Rattle.std.proofs.Common.{◌≡◌, ℕ, ◌+◌, ◌<◌, ◌≤◌, ◌==◌, List, [], ◌∷◌, ◌++◌, Option, Some, None, Result, Ok, Err, OnErr, length, take, drop, refl, sym, ap, ◌∙◌, arith, subst}
+-- How the answered requests of a connection grow by one, how the answering ends, and what is written when
+-- it is cut short.
+use Rattle.std.proofs.Common.{◌≡◌, ℕ, ◌+◌, ◌<◌, ◌≤◌, ◌==◌, inl, inr, Bool, true, false, List, [], ◌∷◌, ◌++◌, Option, Some, None, Result, Ok, Err, OnErr, length, take, drop, refl, sym, ap, subst, ◌∙◌, arith}
 use Rattle.std.proofs.lemmas.List.{append_assoc, append-nil, length-append, take-append-drop}
 use Rattle.std.proofs.lemmas.Grind.{flat_map-append}
 use Rattle.std.specs.List.{flat_map, AllByRecursion}
+use Rattle.kg_message.specs.declared.request.Request.{Request}
 use Rattle.kg_outside.specs.Moves.{with_front, with_end}
 use Rattle.kg_outside.proofs.Observed.{with_front-nil, with_front-append, with_end-nil, with_end-append}
-use Rattle.kg_lone.specs.Answered.{Answered, AnswersAll, AnswersFront, EndsSo}
-use Rattle.kg_lone.specs.DryText.{IsFront, local_address, most_requests, texts}
-use Rattle.kg_lone.specs.Messages.{Message, IsRequest, BeginsNoRequest, NeverBegins, print_message, request_of}
-use Rattle.kg_lone.specs.Plain.{reply_to}
-use Rattle.kg_lone.specs.Reading.{ReaderState, Takes, Grows, Refuses, IsEnded, IsCut}
-use Rattle.kg_lone.specs.declared.dry.End.TheVariants.{Left}
-use Rattle.kg_lone.specs.declared.message.Request.{Request}
-use Rattle.kg_lone.specs.declared.reader.ReadError.TheVariants.{Bad, Cut}
-use Rattle.kg_lone.specs.declared.rows.Rows.{Rows}
+use Rattle.kg_router.specs.RouterRows.{RouterRows}
+use Rattle.kg_wire.specs.Connection.{asks_for_end}
+use Rattle.kg_wire.specs.Messages.{Message, IsRequest, NeverBegins, BeginsNoRequest, print_message, request_of}
+use Rattle.kg_wire.specs.Reading.{ReaderState, Takes, Grows, Refuses, IsCut, IsEnded, IsNothing}
+use Rattle.kg_wire.specs.declared.reader.ReadError.TheVariants.{Bad as BadMessage, Cut as CutMessage}
+use Rattle.kg_lone.specs.Answered.{Answered, AnsweredOn, AnswersAll, AnswersFront, EndsAhead}
+use Rattle.kg_lone.specs.DryText.{GoOn, IsFront, asks, last_text, local_address, most_requests, texts}
+use Rattle.kg_lone.specs.Plain.{bad_request_text, reply_to}
+use Rattle.kg_lone.specs.declared.dry.End.{End}
+use Rattle.kg_lone.specs.declared.dry.End.TheVariants.{Closed, Asked, Spent, Bad, Cut}
+use Rattle.kg_lone.proofs.EndLemmas.{all_on}
 
 -- one more reply at the end
-pub texts-push : (rows : Rows) (answered n : ℕ) (ms : List Message) (m : Message) → n ≡ answered + length ms
+pub texts-push : (rows : RouterRows) (answered n : ℕ) (ms : List Message) (m : Message) → n ≡ answered + length ms
     → texts rows answered (ms ++ m ∷ []) ≡ texts rows answered ms ++ reply_to rows (n + 1 == most_requests) (request_of local_address m)
 texts-push rows answered n [] m is =
     let e : answered ≡ n = omega arith in
@@ -33,17 +37,20 @@ each-push P [] x all here = (here, tt)
 each-push P (y ∷ ys) x all here = (all.0, each-push P ys x all.1 here)
 
 -- no request was answered yet
-pub none_answered : (rows : Rows) (Read : List ℕ → Type 0) (ahead_before ahead_now written : Option (List ℕ))
-    → Read [] → ahead_before ≡ ahead_now → Answered rows Read ahead_before ahead_now written written 0
+pub none_answered : (rows : RouterRows) (Read : List ℕ → Type 0) (ahead_before ahead_now written : Option (List ℕ))
+    → Read [] → ahead_before ≡ ahead_now → AnsweredOn rows Read ahead_before ahead_now written written 0
 none_answered rows Read ahead_before ahead_now written read same = record {
   messages = [];
-  times = [];
   counted = refl;
-  one_each = refl;
-  read = read;
-  each = tt;
-  whole = same ∙ sym (with_front-nil ahead_now);
-  written = sym (with_end-nil written);
+  on = tt;
+  answered = record {
+    times = [];
+    one_each = refl;
+    read = read;
+    each = tt;
+    whole = same ∙ sym (with_front-nil ahead_now);
+    written = sym (with_end-nil written);
+  };
 }
 
 -- one request more was read, in front of what is ahead now
@@ -59,65 +66,23 @@ moved_on a b c ms m whole next =
     ∙ sym (flat_map-append print_message ms (m ∷ [])))
 
 -- one request more was answered
-pub answers_one_more : (rows : Rows) (Before Now : List ℕ → Type 0) (a b c before now later : Option (List ℕ)) (n : ℕ) (m : Message) (time : ℕ)
-    → Answered rows Before a b before now n → IsRequest m → b ≡ with_front (print_message m) c
+answers_one_more : (rows : RouterRows) (Before Now : List ℕ → Type 0) (a b c before now later : Option (List ℕ)) (ms : List Message) (n : ℕ)
+    (m : Message) (time : ℕ) → length ms ≡ n
+    → Answered rows Before a b before now ms → IsRequest m → b ≡ with_front (print_message m) c
     → ((times : List ℕ) → Before times → Now (times ++ time ∷ []))
     → later ≡ with_end now (reply_to rows (n + 1 == most_requests) (request_of local_address m))
-    → Answered rows Now a c before later (n + 1)
-answers_one_more rows Before Now a b c before now later n m time is request next on reply = record {
-  messages = is.messages ++ m ∷ [];
+    → Answered rows Now a c before later (ms ++ m ∷ [])
+answers_one_more rows Before Now a b c before now later ms n m time counted is request next on reply = record {
   times = is.times ++ time ∷ [];
-  counted = simp length-append (let e = is.counted in omega arith);
   one_each = simp length-append (let e = is.one_each in omega arith);
   read = on is.times is.read;
-  each = each-push IsRequest is.messages m is.each request;
-  whole = moved_on a b c is.messages m is.whole next;
+  each = each-push IsRequest ms m is.each request;
+  whole = moved_on a b c ms m is.whole next;
   written =
       reply
       ∙ ap (λ w. with_end w (reply_to rows (n + 1 == most_requests) (request_of local_address m))) is.written
-      ∙ sym (with_end-append before (texts rows 0 is.messages) (reply_to rows (n + 1 == most_requests) (request_of local_address m)))
-      ∙ ap (with_end before) (sym (texts-push rows 0 n is.messages m (let e = is.counted in omega arith)));
-}
-
--- the answering stopped between two requests
-pub stopped_between : (rows : Rows) (Read : List ℕ → Type 0) (a b before now : Option (List ℕ)) (n : ℕ)
-    → Answered rows Read a b before now n → n ≤ most_requests → AnswersFront rows Read a before now
-stopped_between rows Read a b before now n is few = record {
-  messages = is.messages;
-  few = let e = is.counted in omega arith;
-  times = is.times;
-  read = is.read;
-  each = is.each;
-  ahead = b;
-  whole = is.whole;
-  front = texts rows 0 is.messages;
-  begins = ([], sym (append-nil (texts rows 0 is.messages)));
-  written = is.written;
-}
-
--- the answering stopped in the reply to a request
-pub stopped_within : (rows : Rows) (Before Now : List ℕ → Type 0) (a b c before now later : Option (List ℕ)) (n : ℕ) (m : Message) (time : ℕ) (front : List ℕ)
-    → Answered rows Before a b before now n → n < most_requests → IsRequest m → b ≡ with_front (print_message m) c
-    → ((times : List ℕ) → Before times → Now (times ++ time ∷ []))
-    → IsFront front (reply_to rows (n + 1 == most_requests) (request_of local_address m))
-    → later ≡ with_end now front
-    → AnswersFront rows Now a before later
-stopped_within rows Before Now a b c before now later n m time front is few request next on begins written = record {
-  messages = is.messages ++ m ∷ [];
-  few = simp length-append (let e = is.counted in omega arith);
-  times = is.times ++ time ∷ [];
-  read = on is.times is.read;
-  each = each-push IsRequest is.messages m is.each request;
-  ahead = c;
-  whole = moved_on a b c is.messages m is.whole next;
-  front = texts rows 0 is.messages ++ front;
-  begins = (
-    begins.0,
-    texts-push rows 0 n is.messages m (let e = is.counted in omega arith)
-        ∙ ap (λ t. texts rows 0 is.messages ++ t) begins.1
-        ∙ sym (append_assoc (texts rows 0 is.messages) front begins.0),
-  );
-  written = written ∙ ap (λ w. with_end w front) is.written ∙ sym (with_end-append before (texts rows 0 is.messages) front);
+      ∙ sym (with_end-append before (texts rows 0 ms) (reply_to rows (n + 1 == most_requests) (request_of local_address m)))
+      ∙ ap (with_end before) (sym (texts-push rows 0 n ms m (let e = counted in omega arith)));
 }
 
 -- what holds of an error holds of a result
@@ -132,12 +97,6 @@ pub front_written : (before now : Option (List ℕ)) (bytes text : List ℕ) →
 front_written before now bytes text same (n, within, written) =
     (take n bytes, (drop n bytes, sym same ∙ sym (take-append-drop n bytes)), written)
 
--- the answering stopped before the first request
-pub stopped_at_once : (rows : Rows) (Read : List ℕ → Type 0) (ahead written : Option (List ℕ)) → Read []
-    → AnswersFront rows Read ahead written written
-stopped_at_once rows Read ahead written read =
-    stopped_between rows Read ahead ahead written written 0 (none_answered rows Read ahead ahead written read refl) (omega arith)
-
 -- the request that the reader took is in front of what it holds then
 taken_next : (before now : ReaderState) (left later : Option (List ℕ)) (request : Request) (t : Takes before now left later request)
     → with_front before.held left ≡ with_front (print_message t.message) (with_front now.held later)
@@ -148,31 +107,169 @@ taken_means : (before now : ReaderState) (left later : Option (List ℕ)) (reque
     → before.address ≡ local_address → request ≡ request_of local_address t.message
 taken_means before now left later request t here = t.means ∙ ap (λ address. request_of address t.message) here
 
+-- and it asks for the end where its message does
+taken_asks : (before now : ReaderState) (left later : Option (List ℕ)) (request : Request) (t : Takes before now left later request) (b : Bool)
+    → before.address ≡ local_address → asks_for_end request ≡ b → asks t.message ≡ b
+taken_asks before now left later request t b here is = ap asks_for_end (sym (taken_means before now left later request t here)) ∙ is
+
 -- the request that the reader took was answered
-pub answers_taken : (rows : Rows) (Before Now : List ℕ → Type 0) (a : Option (List ℕ)) (before now : ReaderState) (left later w0 w1 w2 : Option (List ℕ))
-    (n : ℕ) (request : Request) (time : ℕ)
-    → Answered rows Before a (with_front before.held left) w0 w1 n → before.address ≡ local_address → Takes before now left later request
+answers_taken : (rows : RouterRows) (Before Now : List ℕ → Type 0) (a : Option (List ℕ)) (before now : ReaderState) (left later w0 w1 w2 : Option (List ℕ))
+    (ms : List Message) (n : ℕ) (request : Request) (time : ℕ) → length ms ≡ n
+    → Answered rows Before a (with_front before.held left) w0 w1 ms → before.address ≡ local_address → (t : Takes before now left later request)
     → ((times : List ℕ) → Before times → Now (times ++ time ∷ []))
     → w2 ≡ with_end w1 (reply_to rows (n + 1 == most_requests) request)
-    → Answered rows Now a (with_front now.held later) w0 w2 (n + 1)
-answers_taken rows Before Now a before now left later w0 w1 w2 n request time is here t on reply =
-    answers_one_more rows Before Now a (with_front before.held left) (with_front now.held later) w0 w1 w2 n t.message time is t.is
+    → Answered rows Now a (with_front now.held later) w0 w2 (ms ++ t.message ∷ [])
+answers_taken rows Before Now a before now left later w0 w1 w2 ms n request time counted is here t on reply =
+    answers_one_more rows Before Now a (with_front before.held left) (with_front now.held later) w0 w1 w2 ms n t.message time counted is t.is
     (taken_next before now left later request t) on
     (reply ∙ ap (λ q. with_end w1 (reply_to rows (n + 1 == most_requests) q)) (taken_means before now left later request t here))
 
--- the reply to the request that the reader took was cut short
-pub stopped_taken : (rows : Rows) (Before Now : List ℕ → Type 0) (a : Option (List ℕ)) (before now : ReaderState) (left later w0 w1 w2 : Option (List ℕ))
+-- it was answered, and doesn't ask for the end
+pub goes_on : (rows : RouterRows) (Before Now : List ℕ → Type 0) (a : Option (List ℕ)) (before now : ReaderState) (left later w0 w1 w2 : Option (List ℕ))
+    (n : ℕ) (request : Request) (time : ℕ)
+    → AnsweredOn rows Before a (with_front before.held left) w0 w1 n → before.address ≡ local_address → Takes before now left later request
+    → ((times : List ℕ) → Before times → Now (times ++ time ∷ []))
+    → w2 ≡ with_end w1 (reply_to rows (n + 1 == most_requests) request) → asks_for_end request ≡ false
+    → AnsweredOn rows Now a (with_front now.held later) w0 w2 (n + 1)
+goes_on rows Before Now a before now left later w0 w1 w2 n request time is here t on reply asked = record {
+  messages = is.messages ++ t.message ∷ [];
+  counted = simp length-append (let e = is.counted in omega arith);
+  on = each-push (λ m. asks m ≡ false) is.messages t.message is.on (taken_asks before now left later request t false here asked);
+  answered = answers_taken rows Before Now a before now left later w0 w1 w2 is.messages n request time is.counted is.answered here t on reply;
+}
+
+-- it was answered, and asks for the end
+pub ends_asked : (rows : RouterRows) (Before Now : List ℕ → Type 0) (a : Option (List ℕ)) (before now : ReaderState) (left later w0 w1 w2 : Option (List ℕ))
+    (n : ℕ) (request : Request) (time : ℕ)
+    → AnsweredOn rows Before a (with_front before.held left) w0 w1 n → n < most_requests → before.address ≡ local_address
+    → Takes before now left later request
+    → ((times : List ℕ) → Before times → Now (times ++ time ∷ []))
+    → w2 ≡ with_end w1 (reply_to rows (n + 1 == most_requests) request) → asks_for_end request ≡ true
+    → AnswersAll rows Now a w0 w2 Asked
+ends_asked rows Before Now a before now left later w0 w1 w2 n request time is few here t on reply asked = record {
+  messages = is.messages ++ t.message ∷ [];
+  most = simp length-append (let e = is.counted in omega arith);
+  ahead = with_front now.held later;
+  replied = w2;
+  answered = answers_taken rows Before Now a before now left later w0 w1 w2 is.messages n request time is.counted is.answered here t on reply;
+  ends = λ rest seen. record {
+    before = is.messages;
+    last = t.message;
+    joined = refl;
+    on = is.on;
+    asked = taken_asks before now left later request t true here asked;
+  };
+  last = sym (with_end-nil w2);
+}
+
+-- ---- the answering stops
+
+-- between two requests
+pub stopped_between : (rows : RouterRows) (Read : List ℕ → Type 0) (a b before now : Option (List ℕ)) (n : ℕ)
+    → AnsweredOn rows Read a b before now n → n ≤ most_requests → AnswersFront rows Read a before now
+stopped_between rows Read a b before now n is few = record {
+  messages = is.messages;
+  few = let e = is.counted in omega arith;
+  on = all_on is.messages is.on;
+  times = is.answered.times;
+  read = is.answered.read;
+  each = is.answered.each;
+  ahead = b;
+  whole = is.answered.whole;
+  front = texts rows 0 is.messages;
+  begins = inl ([], sym (append-nil (texts rows 0 is.messages)));
+  written = is.answered.written;
+}
+
+-- before the first request
+pub stopped_at_once : (rows : RouterRows) (Read : List ℕ → Type 0) (ahead written : Option (List ℕ)) → Read []
+    → AnswersFront rows Read ahead written written
+stopped_at_once rows Read ahead written read =
+    stopped_between rows Read ahead ahead written written 0 (none_answered rows Read ahead ahead written read refl) (omega arith)
+
+-- in the reply to the request that the reader took
+pub stopped_taken : (rows : RouterRows) (Before Now : List ℕ → Type 0) (a : Option (List ℕ)) (before now : ReaderState) (left later w0 w1 w2 : Option (List ℕ))
     (n : ℕ) (request : Request) (time : ℕ) (front : List ℕ)
-    → Answered rows Before a (with_front before.held left) w0 w1 n → n < most_requests → before.address ≡ local_address
+    → AnsweredOn rows Before a (with_front before.held left) w0 w1 n → n < most_requests → before.address ≡ local_address
     → Takes before now left later request
     → ((times : List ℕ) → Before times → Now (times ++ time ∷ []))
     → IsFront front (reply_to rows (n + 1 == most_requests) request) → w2 ≡ with_end w1 front
     → AnswersFront rows Now a w0 w2
-stopped_taken rows Before Now a before now left later w0 w1 w2 n request time front is few here t on begins written =
-    stopped_within rows Before Now a (with_front before.held left) (with_front now.held later) w0 w1 w2 n t.message time front is few t.is
-    (taken_next before now left later request t) on
-    (begins.0, ap (reply_to rows (n + 1 == most_requests)) (sym (taken_means before now left later request t here)) ∙ begins.1)
-    written
+stopped_taken rows Before Now a before now left later w0 w1 w2 n request time front is few here t on begins written = record {
+  messages = is.messages ++ t.message ∷ [];
+  few = simp length-append (let e = is.counted in omega arith);
+  on = record { before = is.messages; last = t.message ∷ []; joined = refl; on = is.on; one = omega arith };
+  times = is.answered.times ++ time ∷ [];
+  read = on is.answered.times is.answered.read;
+  each = each-push IsRequest is.messages t.message is.answered.each t.is;
+  ahead = with_front now.held later;
+  whole = moved_on a (with_front before.held left) (with_front now.held later) is.messages t.message is.answered.whole (taken_next before now left later request t);
+  front = texts rows 0 is.messages ++ front;
+  begins = inl (
+    begins.0,
+    texts-push rows 0 n is.messages t.message (let e = is.counted in omega arith)
+        ∙ ap (λ t. texts rows 0 is.messages ++ t)
+        (ap (reply_to rows (n + 1 == most_requests)) (sym (taken_means before now left later request t here)) ∙ begins.1)
+        ∙ sym (append_assoc (texts rows 0 is.messages) front begins.0),
+  );
+  written = written ∙ ap (λ w. with_end w front) is.answered.written ∙ sym (with_end-append w0 (texts rows 0 is.messages) front);
+}
+
+-- in the text that answers a refused message
+pub stopped_bad : (rows : RouterRows) (Read : List ℕ → Type 0) (a b w0 w1 w2 : Option (List ℕ)) (n : ℕ) (front : List ℕ)
+    → (is : AnsweredOn rows Read a b w0 w1 n) → n ≤ most_requests → EndsAhead Bad is.messages b
+    → IsFront front bad_request_text → w2 ≡ with_end w1 front → AnswersFront rows Read a w0 w2
+stopped_bad rows Read a b w0 w1 w2 n front is few bad begins written = record {
+  messages = is.messages;
+  few = let e = is.counted in omega arith;
+  on = all_on is.messages is.on;
+  times = is.answered.times;
+  read = is.answered.read;
+  each = is.answered.each;
+  ahead = b;
+  whole = is.answered.whole;
+  front = texts rows 0 is.messages ++ front;
+  begins = inr (
+    bad,
+    (begins.0, ap (λ t. texts rows 0 is.messages ++ t) begins.1 ∙ sym (append_assoc (texts rows 0 is.messages) front begins.0)),
+  );
+  written = written ∙ ap (λ w. with_end w front) is.answered.written ∙ sym (with_end-append w0 (texts rows 0 is.messages) front);
+}
+
+-- ---- the answering ends
+
+-- after so many requests, none of which asked for it
+pub ends_after : (rows : RouterRows) (Read : List ℕ → Type 0) (a b w0 w1 w2 : Option (List ℕ)) (n : ℕ) (end : End)
+    → (is : AnsweredOn rows Read a b w0 w1 n) → n ≤ most_requests → EndsAhead end is.messages b → w2 ≡ with_end w1 (last_text end)
+    → AnswersAll rows Read a w0 w2 end
+ends_after rows Read a b w0 w1 w2 n end is few ends last = record {
+  messages = is.messages;
+  most = let e = is.counted in omega arith;
+  ahead = b;
+  replied = w1;
+  answered = is.answered;
+  ends = ends;
+  last = last;
+}
+
+-- as many were answered as may be
+pub ends_spent : (rows : RouterRows) (Read : List ℕ → Type 0) (a b w0 w1 : Option (List ℕ)) (n : ℕ)
+    → AnsweredOn rows Read a b w0 w1 n → n ≡ most_requests → AnswersAll rows Read a w0 w1 Spent
+ends_spent rows Read a b w0 w1 n is all =
+    ends_after rows Read a b w0 w1 w1 n Spent is (omega arith) (λ rest seen. (is.on, is.counted ∙ all)) (sym (with_end-nil w1))
+
+-- the source ended between two messages
+pub ends_closed : (rows : RouterRows) (Read : List ℕ → Type 0) (a w0 w1 : Option (List ℕ)) (n : ℕ) (before now : ReaderState) (left later : Option (List ℕ))
+    → AnsweredOn rows Read a (with_front before.held left) w0 w1 n → n < most_requests → IsNothing before now left later
+    → AnswersAll rows Read a w0 w1 Closed
+ends_closed rows Read a w0 w1 n before now left later is few nothing =
+    ends_after rows Read a (with_front before.held left) w0 w1 w1 n Closed is (omega arith)
+    (λ rest seen. (is.on, let e = is.counted in omega arith, none rest seen)) (sym (with_end-nil w1))
+  where
+    none : (rest : List ℕ) → with_front before.held left ≡ Some rest → rest ≡ []
+    none rest seen =
+        nothing.ended rest
+        (nothing.left ∙ sym (with_front-nil left) ∙ ap (λ held. with_front held left) (sym nothing.none_held) ∙ seen)
 
 -- what is ahead stays the same while the reader reads
 grown_ahead : (held now : List ℕ) (left later : Option (List ℕ)) → Grows held now left later → with_front held left ≡ with_front now later
@@ -181,28 +278,30 @@ grown_ahead held now left later grows =
     ∙ sym (with_front-append held grows.piece later)
     ∙ ap (λ bytes. with_front bytes later) (sym grows.grown)
 
--- bytes that never begin a request are left
-pub left_by_bad : (n at place : ℕ) (held now : List ℕ) (left later : Option (List ℕ)) → n < most_requests → Grows held now left later
-    → Refuses at now later (Bad place) → EndsSo Left n (with_front held left)
-left_by_bad n at place held now left later few grows bad =
-    (few, λ rest ahead. by_cases rest later (sym ahead ∙ grown_ahead held now left later grows))
+-- the bytes ahead never begin a request
+pub bad_ahead : (ms : List Message) (n at place : ℕ) (held now : List ℕ) (left later : Option (List ℕ)) → GoOn ms → length ms ≡ n
+    → n < most_requests → Grows held now left later → Refuses at now later (BadMessage place) → EndsAhead Bad ms (with_front held left)
+bad_ahead ms n at place held now left later on counted few grows bad rest ahead =
+    let ends = by_cases rest later (sym ahead ∙ grown_ahead held now left later grows) in
+    (on, let e = counted in omega arith, ends.0, ends.1)
   where
-    by_cases : (rest : List ℕ) (later : Option (List ℕ)) → Some rest ≡ with_front now later → (0 < length rest) × BeginsNoRequest rest
+    by_cases : (rest : List ℕ) (later : Option (List ℕ)) → Some rest ≡ with_front now later → (0 < length rest) × NeverBegins rest
     by_cases rest None e = absurd (cc)
     by_cases rest (Some more) e =
-        let same : rest ≡ now ++ more = cc in
-        (rw same (simp length-append (let some = bad.1 in omega arith)), rw same (bad.2 more))
+        let same : rest ≡ now ++ more = cc in (
+          rw same (simp length-append (let some = bad.1 in omega arith)),
+          λ further. subst BeginsNoRequest (sym (ap (λ t. t ++ further) same ∙ append_assoc now more further)) (bad.2 (more ++ further)),
+        )
 
--- bytes that begin no request whole are left
-pub left_by_cut : (n at have : ℕ) (held now : List ℕ) (left later : Option (List ℕ)) → n < most_requests → Grows held now left later
-    → Refuses at now later (Cut have) → EndsSo Left n (with_front held left)
-left_by_cut n at have held now left later few grows cut =
-    (few, λ rest ahead. by_cases rest later cut.2 (sym ahead ∙ grown_ahead held now left later grows))
+-- the bytes ahead are cut short
+pub cut_ahead : (ms : List Message) (n at have : ℕ) (held now : List ℕ) (left later : Option (List ℕ)) → GoOn ms → length ms ≡ n
+    → n < most_requests → Grows held now left later → Refuses at now later (CutMessage have) → EndsAhead Cut ms (with_front held left)
+cut_ahead ms n at have held now left later on counted few grows cut rest ahead =
+    (on, let e = counted in omega arith, by_cases rest later cut.2 (sym ahead ∙ grown_ahead held now left later grows))
   where
-    by_cases : (rest : List ℕ) (later : Option (List ℕ)) → IsEnded later → Some rest ≡ with_front now later → (0 < length rest) × BeginsNoRequest rest
+    by_cases : (rest : List ℕ) (later : Option (List ℕ)) → IsEnded later → Some rest ≡ with_front now later → IsCut rest
     by_cases rest None ended e = absurd (cc)
     by_cases rest (Some more) ended e =
         let none : more ≡ [] = ended more refl in
         let same : rest ≡ now ++ more = cc in
-        let whole : rest ≡ now = same ∙ ap (λ t. now ++ t) none ∙ append-nil now in
-        (rw whole cut.1.some, rw whole cut.1.part)
+        subst IsCut (sym (same ∙ ap (λ t. now ++ t) none ∙ append-nil now)) cut.1

@@ -1,5 +1,5 @@
 -- The rows of a declaration, made one after another.
-use Rattle.std.proofs.Common.{◌≡◌, ℕ, suc, ◌+◌, List, [], ◌∷◌, ◌++◌, length, drop, map, sum_by, ◌/◌, Result, Ok, Err, IfOk, IsErr, append_assoc, length-append, refl, sym, ap, ◌∙◌, arith}
+use Rattle.std.proofs.Common.{◌≡◌, ℕ, ◌+◌, List, [], ◌∷◌, ◌++◌, length, drop, map, sum_by, ◌/◌, Result, Ok, Err, IfOk, IsErr, length-append, refl, sym, ap, ◌∙◌, arith}
 use Rattle.std.proofs.lemmas.Grind.{flat_map-append}
 use Rattle.std.proofs.lemmas.List.{append-nil, drop_at, length-map, map-append}
 use Rattle.std.proofs.lemmas.List.Sums.{sum_by-cons}

@@ -1,14 +1,13 @@
 -- Texts of a declaration: which differ, which are ASCII, and what their digits tell.
-use Rattle.std.proofs.Common.{◌≡◌, ℕ, suc, ◌+◌, ◌<◌, ◌^◌, ◌==◌, nat_lt, nat_le, if◌then◌else◌, Bool, true, false, not, ◌&&◌, ◌||◌, cond, List, [], ◌∷◌, ◌++◌, length, get_or, drop, take, map, Option, Some, None, unwrap_or, Result, Ok, Err, Bor, codes, IsUtf8, IsTrue, All, slice_index, nat_eq, refl, sym, ap, subst, ◌∙◌, append_assoc, arith, true≢false}
+use Rattle.std.proofs.Common.{◌≡◌, ℕ, suc, ◌+◌, ◌<◌, ◌^◌, ◌==◌, nat_lt, nat_le, if◌then◌else◌, Bool, true, false, not, ◌&&◌, ◌||◌, cond, List, [], ◌∷◌, ◌++◌, length, get_or, drop, take, map, Option, Some, None, unwrap_or, Result, Ok, Err, Bor, codes, slice_index, refl, sym, ap, subst, ◌∙◌, append_assoc, arith}
 use Rattle.std.proofs.Math.Seq.{split_at}
 use Rattle.std.proofs.lemmas.Bool.Decides.{nat_tests}
 use Rattle.std.proofs.lemmas.Cmp.{nat_list_eq_equiv}
 use Rattle.std.proofs.lemmas.List.{append-nil, map-append, take_more}
 use Rattle.std.proofs.lemmas.Grind.{flat_map-append}
 use Rattle.std.proofs.lemmas.List.Elements.{filter_map-append}
-use Rattle.std.proofs.lemmas.List.Folds.{list_any-append, list_any_more}
+use Rattle.std.proofs.lemmas.List.Folds.{list_any-append}
 use Rattle.std.proofs.lemmas.List.Sums.{AllPass-from_list_all, prefix_len-le-length}
-use Rattle.std.proofs.lemmas.Str.{IsUtf8-from_ascii}
 use Rattle.std.proofs.lemmas.Str.Ascii.{IsAscii-from_all}
 use Rattle.std.specs.List.{list_all, list_any, filter_map, flat_map, cons_option, position, position_or_len}
 use Rattle.std.specs.Str.{IsAscii, bytes_eq}
@@ -17,7 +16,6 @@ use Rattle.std.specs.Str.Parse.{AllDigits, IsNumeral, ParsesUnsigned, digits_val
 use Rattle.std.specs.Result.{OkIff, result_ok}
 use Rattle.kg_text.specs.Paths.{is_path, is_path_byte, normal_escapes, normal_form, path_len, without_dots}
 use Rattle.kg_lone.specs.Declaration.{route_names}
-use Rattle.kg_lone.specs.declared.declaration.RouteDraft.{RouteDraft}
 use Rattle.kg_lone.specs.declared.declaration.ServiceDraft.{ServiceDraft}
 use Rattle.kg_lone.specs.Declaration.Members.{only_if}
 use Rattle.kg_lone.specs.Declaration.Texts.{are_distinct, is_label, is_numeral, is_one_of, port_number}
@@ -114,7 +112,8 @@ are_distinct-push (x ∷ xs) y distinct new =
 abbrev pub in_front : List (Bor (List ℕ)) → ℕ → List (List ℕ)
 in_front texts i = map (λ text. text.now) (take i texts)
 
-one_more_in_front : (texts : List (Bor (List ℕ))) (i : ℕ) (d : Bor (List ℕ)) → i < length texts → in_front texts (i + 1) ≡ in_front texts i ++ (get_or texts i d).now ∷ []
+-- one more of them
+pub one_more_in_front : (texts : List (Bor (List ℕ))) (i : ℕ) (d : Bor (List ℕ)) → i < length texts → in_front texts (i + 1) ≡ in_front texts i ++ (get_or texts i d).now ∷ []
 one_more_in_front texts i d within = ap (map (λ text. text.now)) (take_more texts i d within) ∙ map-append (λ text. text.now) (take i texts) (get_or texts i d ∷ [])
 
 -- which texts are among those in front, with one more of them

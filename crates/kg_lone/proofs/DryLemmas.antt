@@ -1,26 +1,28 @@
 -- The text of a dry run: it is determined by what was read, and a run that was cut short wrote a front of it.
-use Rattle.std.proofs.Common.{◌≡◌, ℕ, ◌+◌, ◌<◌, ◌≤◌, ◌==◌, ◌||◌, ◌⊎◌, inl, inr, Bool, true, false, List, [], ◌∷◌, ◌++◌, Option, Some, None, Result, Ok, Err, IfOk, IfSome, IfNone, OnErr, length, refl, sym, ap, ◌∙◌, subst, arith}
-use Rattle.std.proofs.lemmas.List.{append_assoc, append-nil, append_cancel_left, length-append, nil_from_length}
-use Rattle.std.proofs.lemmas.Bool.Decides.{nat_tests}
-use Rattle.std.specs.List.{flat_map, AllByRecursion}
-use Rattle.httparse.specs.Grammar.{print_request}
+use Rattle.std.proofs.Common.{◌≡◌, ℕ, ◌+◌, ◌<◌, ◌≤◌, ◌==◌, ◌⊎◌, inl, inr, List, [], ◌∷◌, ◌++◌, Option, Some, None, Result, Ok, Err, IfOk, IfSome, OnErr, length, refl, sym, ap, ◌∙◌, subst, arith}
+use Rattle.std.proofs.lemmas.List.{append_assoc, append-nil, length-append, nil_from_length}
+use Rattle.std.specs.List.{flat_map}
 use Rattle.kg_outside.specs.Moves.{with_front, with_end}
-use Rattle.kg_lone.specs.Answered.{Answered, AnswersAll, AnswersFront, EndsSo}
-use Rattle.kg_lone.specs.Declaration.{IsDeclaration, drafts_of}
-use Rattle.kg_lone.specs.DryRun.{FindsFirst, status_of}
-use Rattle.kg_lone.specs.DryText.{IsAnsweredRun, IsDryText, IsFront, IsRefusedRun, WritesFront, WritesText, local_address, most_requests, refusal_line, status_after, texts}
-use Rattle.kg_lone.specs.Messages.{Message, IsRequest, IsReading, BeginsNoRequest, print_message, request_of}
+use Rattle.kg_outside.proofs.Observed.{with_end-append}
+use Rattle.kg_router.specs.RouterRows.{HasDistinctRoutes, RouterRows}
+use Rattle.kg_wire.specs.Messages.{Message, IsReading, BeginsNoRequest, print_message, request_of}
+use Rattle.kg_wire.proofs.MessageLemmas.{reading_front, reading_most, reading_same}
+use Rattle.kg_lone.specs.Answered.{AnswersAll, AnswersFront, FrontOfReplies}
+use Rattle.kg_lone.specs.Declaration.{IsDeclaration, drafts_of, most_line}
+use Rattle.kg_lone.specs.DeclaredRows.{Declares, IsDeclared, router_rows}
+use Rattle.kg_lone.specs.DryRun.{DifferAtEnd, FindsFirst, IsBroken, status_of}
+use Rattle.kg_lone.specs.DryText.{BeginsText, EndsSo, IsDryText, IsFront, WritesFront, WritesText, last_text, local_address, most_requests, refusal_line, texts}
+use Rattle.kg_lone.specs.FirstLine.{IsFirstLine, line_of, after_line}
 use Rattle.kg_lone.specs.Plain.{reply_to}
-use Rattle.kg_lone.specs.Reading.{IsFirstLine, line_of, after_line}
-use Rattle.kg_lone.specs.Rows.{row_count, rows_of}
+use Rattle.kg_lone.specs.Rows.{AreRows, row_count, rows_of}
 use Rattle.kg_lone.specs.declared.declaration.ServiceDraft.{ServiceDraft}
 use Rattle.kg_lone.specs.declared.dry.End.{End}
-use Rattle.kg_lone.specs.declared.dry.End.TheVariants.{Closed, Spent, Left, Refused}
+use Rattle.kg_lone.specs.declared.dry.End.TheVariants.{Bad, Refused}
 use Rattle.kg_lone.specs.declared.rows.Rows.{Rows}
-use Rattle.kg_lone.proofs.MessageLemmas.{message_unique}
+use Rattle.kg_lone.proofs.EndLemmas.{front_of_whole, is_last, one_end, same_whole}
 
 -- a length can't be past a limit and within it
-pub past_limit : (limit n : ℕ) → limit < n → n ≤ limit → ⊥
+past_limit : (limit n : ℕ) → limit < n → n ≤ limit → ⊥
 past_limit limit n past within = omega arith
 
 -- a line declares one list of services
@@ -32,50 +34,71 @@ declaration_unique line drafts others is also =
     some_is : {A : Type 0} {x y : A} → Some x ≡ Some y → x ≡ y
     some_is e = cc
 
--- what the first line declares
-pub finds_first : (limit : ℕ) (bytes line read : List ℕ) (left : Option (List ℕ)) (found : Option (List ServiceDraft))
-    → IsFirstLine limit bytes left line → read ≡ line → IfSome found (IsDeclaration read)
-    → IfNone found ((drafts : List ServiceDraft) → ¬ (IsDeclaration read drafts)) → FindsFirst bytes left found
-finds_first limit bytes line read left (Some drafts) first same is none =
-    (subst (λ text. IsDeclaration text drafts) (same ∙ first.is) is, first.after)
-finds_first limit bytes line read left None first same is none =
-    λ drafts declares. none drafts (subst (λ text. IsDeclaration text drafts) (sym (same ∙ first.is)) declares)
+-- the ids that were drawn are all that the rows take
+no_more : (drawn more : List (List ℕ)) (count : ℕ) → length drawn ≡ count → length (drawn ++ more) ≡ count → more ≡ []
+no_more drawn more count all still = nil_from_length more (omega (arith, length-append drawn more))
 
--- a request has bytes
-message_len : (m : Message) → IsRequest m → 0 < length (print_message m)
-unfolding print_request
-message_len m is = let some = is.message.grammar.method.0 in simp length-append (omega arith)
+-- the rows of a line are those of its declaration and of the ids that were drawn
+rows_same : (now : ℕ) (line : List ℕ) (drawn all more : List (List ℕ)) (drafts others : List ServiceDraft) (rows also : Rows)
+    → IsDeclaration line drafts → AreRows now drafts drawn rows → IsDeclaration line others → AreRows now others all also
+    → all ≡ drawn ++ more → rows ≡ also
+rows_same now line drawn all more drafts others rows also is made other remade grown =
+    let same = declaration_unique line drafts others is other in
+    let none = no_more drawn more (row_count drafts) made.count (sym (ap length grown) ∙ remade.count ∙ ap row_count (sym same)) in
+    made.made
+    ∙ ap (λ d. rows_of now d drawn) same
+    ∙ ap (rows_of now others) (sym (append-nil drawn) ∙ ap (λ d. drawn ++ d) (sym none) ∙ sym grown)
+    ∙ sym remade.made
 
--- nothing is no request
-pub nothing_begins : BeginsNoRequest []
-nothing_begins m rest is same =
-    let some = message_len m is in
-    absurd (omega (arith, ap length same, length-append (print_message m) rest))
+-- a line declares the same rows, also where more ids were to come
+declared_same : (now time : ℕ) (line : List ℕ) (drawn all more : List (List ℕ)) (rows also : Rows) → now ≡ time
+    → Declares now line drawn rows → Declares time line all also → all ≡ drawn ++ more → rows ≡ also
+declared_same now time line drawn all more rows also at is other grown =
+    rows_same time line drawn all more is.drafts other.drafts rows also is.is
+    (subst (λ n. AreRows n is.drafts drawn rows) at is.made) other.is other.made grown
 
--- of two readings of the same bytes the one that ended holds the other at its front
-pub reading_front : (ms ns : List Message) (left rest : List ℕ) → AllByRecursion IsRequest ms → AllByRecursion IsRequest ns
-    → flat_map print_message ms ++ left ≡ flat_map print_message ns ++ rest
-    → (length ms ≤ length ns) ⊎ BeginsNoRequest rest
-    → (zs : List Message) × (ns ≡ ms ++ zs)
-reading_front [] ns left rest all each same end = (ns, refl)
-reading_front (m ∷ ms) [] left rest all each same (inl few) = absurd (omega arith)
-reading_front (m ∷ ms) [] left rest all each same (inr none) =
-    absurd (none m (flat_map print_message ms ++ left) all.0
-    (sym same ∙ append_assoc (print_message m) (flat_map print_message ms) left))
-reading_front (m ∷ ms) (n ∷ ns) left rest all each same end =
-    let one = message_unique (flat_map print_message (m ∷ ms) ++ left) m n (flat_map print_message ms ++ left) (flat_map print_message ns ++ rest)
-    all.0.message each.0.message
-    (append_assoc (print_message m) (flat_map print_message ms) left)
-    (same ∙ append_assoc (print_message n) (flat_map print_message ns) rest) in
-    let more = reading_front ms ns left rest all.1 each.1 one.1 (less end) in
-    (more.0, ap (λ x. x ∷ ns) (sym one.0) ∙ ap (λ xs. m ∷ xs) more.1)
-  where
-    less : (length (m ∷ ms) ≤ length (n ∷ ns)) ⊎ BeginsNoRequest rest → (length ms ≤ length ns) ⊎ BeginsNoRequest rest
-    less (inl few) = inl (omega arith)
-    less (inr none) = inr none
+-- and isn't refused
+declared_never : (now time : ℕ) (line : List ℕ) (drawn all more : List (List ℕ)) (rows : Rows) → now ≡ time
+    → Declares now line drawn rows → IsDeclared time line all None → all ≡ drawn ++ more → ⊥
+declared_never now time line drawn all more rows at is (inl undeclared) grown = undeclared.none is.drafts is.is
+declared_never now time line drawn all more rows at is (inr doubled) grown =
+    doubled.doubled
+    (subst (λ (r : Rows). HasDistinctRoutes r.routes)
+    (rows_same time line drawn all more is.drafts doubled.drafts rows doubled.rows is.is
+    (subst (λ n. AreRows n is.drafts drawn rows) at is.made) doubled.is doubled.made grown)
+    is.distinct)
+
+-- a line that is refused declares nothing
+refused_never : (now time : ℕ) (line : List ℕ) (drawn all more : List (List ℕ)) (rows : Rows) → now ≡ time
+    → IsDeclared now line drawn None → Declares time line all rows → all ≡ drawn ++ more → ⊥
+refused_never now time line drawn all more rows at (inl undeclared) is grown = undeclared.none is.drafts is.is
+refused_never now time line drawn all more rows at (inr doubled) is grown =
+    doubled.doubled
+    (subst (λ (r : Rows). HasDistinctRoutes r.routes)
+    (sym (rows_same time line drawn all more doubled.drafts is.drafts doubled.rows rows doubled.is
+    (subst (λ n. AreRows n doubled.drafts drawn doubled.rows) at doubled.made) is.is is.made grown))
+    is.distinct)
+
+-- what is found in the first line
+pub finds_first : (now limit : ℕ) (bytes line read : List ℕ) (left : Option (List ℕ)) (drawn : List (List ℕ)) (found : Option Rows)
+    → IsFirstLine limit bytes left line → read ≡ line → IsDeclared now read drawn found → FindsFirst now bytes left drawn found
+finds_first now limit bytes line read left drawn (Some rows) first same is =
+    (subst (λ text. Declares now text drawn rows) (same ∙ first.is) is, first.after)
+finds_first now limit bytes line read left drawn None first same is =
+    subst (λ text. IsDeclared now text drawn None) (same ∙ first.is) is
+
+-- a line past its limit declares nothing
+pub too_long : (now : ℕ) (bytes : List ℕ) → most_line < length (line_of bytes) → IsDeclared now (line_of bytes) [] None
+too_long now bytes past = inl (record { none = λ drafts is. past_limit most_line (length (line_of bytes)) past is.short; ids = refl })
+
+-- the routes that a line declares have distinct ids
+pub distinct_of : (now : ℕ) (line : List ℕ) (drawn : List (List ℕ)) (found : Option Rows) → IsDeclared now line drawn found
+    → IfSome found (λ (rows : Rows). HasDistinctRoutes rows.routes)
+distinct_of now line drawn (Some rows) is = is.distinct
+distinct_of now line drawn None is = tt
 
 -- the replies to some requests and then to others
-texts-append : (rows : Rows) (answered : ℕ) (ms zs : List Message)
+texts-append : (rows : RouterRows) (answered : ℕ) (ms zs : List Message)
     → texts rows answered (ms ++ zs) ≡ texts rows answered ms ++ texts rows (answered + length ms) zs
 texts-append rows answered [] zs = ap (λ n. texts rows n zs) (let e : answered ≡ answered + 0 = omega arith in e)
 texts-append rows answered (m ∷ ms) zs =
@@ -86,7 +109,7 @@ texts-append rows answered (m ∷ ms) zs =
     ∙ sym (append_assoc first (texts rows (answered + 1) ms) (texts rows (answered + length (m ∷ ms)) zs))
 
 -- the replies to the requests at the front are the front of the replies
-texts_front : (rows : Rows) (ms ns : List Message) → (zs : List Message) × (ns ≡ ms ++ zs) → IsFront (texts rows 0 ms) (texts rows 0 ns)
+texts_front : (rows : RouterRows) (ms ns : List Message) → (zs : List Message) × (ns ≡ ms ++ zs) → IsFront (texts rows 0 ms) (texts rows 0 ns)
 texts_front rows ms ns (zs, is) = (texts rows (0 + length ms) zs, ap (texts rows 0) is ∙ texts-append rows 0 ms zs)
 
 -- a front of a front is one
@@ -103,9 +126,9 @@ seen_ahead bytes front left (Some rest) told is = (rest, refl, cc)
 first_time : (a b : ℕ) (xs ys : List ℕ) → ◌≡◌ {A = List ℕ} (a ∷ xs) (b ∷ ys) → (a ≡ b) × (xs ≡ ys)
 first_time a b xs ys e = (cc, cc)
 
--- the ids that were drawn are all that the rows take
-no_more : (drawn more : List (List ℕ)) (count : ℕ) → length drawn ≡ count → length (drawn ++ more) ≡ count → more ≡ []
-no_more drawn more count all still = nil_from_length more (omega (arith, length-append drawn more))
+-- a front of a part of a text is one of the text
+front_within : (a b c end : List ℕ) → IsFront a b → IsFront b c → IsFront a (c ++ end)
+front_within a b c end front within = front_front a b (c ++ end) front (within.0 ++ end, ap (λ t. t ++ end) within.1 ∙ append_assoc b within.0 end)
 
 -- ---- a run that was cut short
 
@@ -118,181 +141,200 @@ nothing_written Drew Read bytes written drawn times drew read none = record {
   front = [];
   drew = drew;
   read = read;
-  begins = λ more later status text is. (text, refl);
+  begins = λ more later end text is. record { end = end; text = text; meant = is; front_of = (text, refl) };
   written = none;
 }
 
 -- what was written of the refusal
 pub refusal_front : (Drew : List (List ℕ) → Type 0) (Read : List ℕ → Type 0) (bytes : List ℕ) (before now : Option (List ℕ))
-    (time : ℕ) → Drew [] → Read (time ∷ []) → ((drafts : List ServiceDraft) → ¬ (IsDeclaration (line_of bytes) drafts))
+    (drawn : List (List ℕ)) (time : ℕ) → Drew drawn → Read (time ∷ []) → IsDeclared time (line_of bytes) drawn None
     → (front : List ℕ) × IsFront front refusal_line × (now ≡ with_end before front) → WritesFront Drew Read bytes before now
-refusal_front Drew Read bytes before now time drew read refused front = record {
-  drawn = [];
+refusal_front Drew Read bytes before now drawn time drew read refused front = record {
+  drawn = drawn;
   times = time ∷ [];
   front = front.0;
   drew = drew;
   read = read;
-  begins = λ more later status text is. by_cases more later status text is;
+  begins = λ more later end text is. by_cases more later end text is;
   written = front.2;
 }
   where
-    by_cases : (more : List (List ℕ)) (later : List ℕ) (status : ℕ) (text : List ℕ)
-        → IsDryText bytes ([] ++ more) ((time ∷ []) ++ later) status text → IsFront front.0 text
-    by_cases more later status text (inl answered) = absurd (refused answered.drafts answered.declares)
-    by_cases more later status text (inr is) = (front.1.0, is.written ∙ front.1.1)
+    by_cases : (more : List (List ℕ)) (later : List ℕ) (end : End) (text : List ℕ)
+        → IsDryText bytes (drawn ++ more) ((time ∷ []) ++ later) end text → BeginsText bytes (drawn ++ more) ((time ∷ []) ++ later) front.0
+    by_cases more later end text (inl a) =
+        absurd (refused_never time a.now (line_of bytes) drawn (drawn ++ more) more a.rows
+        (first_time time a.now later a.later a.clock).0 refused a.declares refl)
+    by_cases more later end text (inr is) =
+        record { end = end; text = text; meant = inr is; front_of = (front.1.0, is.written ∙ front.1.1) }
 
 -- what was written of the replies
 pub replies_front : (Drew : List (List ℕ) → Type 0) (Read Later : List ℕ → Type 0) (bytes : List ℕ) (left before written : Option (List ℕ))
-    (now : ℕ) (drafts : List ServiceDraft) (drawn : List (List ℕ)) (rows : Rows)
-    → IsDeclaration (line_of bytes) drafts → left ≡ Some (after_line bytes)
-    → Drew drawn → length drawn ≡ row_count drafts → rows ≡ rows_of now drafts drawn
+    (now : ℕ) (drawn : List (List ℕ)) (rows : Rows) (routing : RouterRows)
+    → Declares now (line_of bytes) drawn rows → left ≡ Some (after_line bytes)
+    → Drew drawn → routing ≡ router_rows rows
     → ((times : List ℕ) → Later times → Read (now ∷ times))
-    → AnswersFront rows Later left before written → WritesFront Drew Read bytes before written
-replies_front Drew Read Later bytes left before written now drafts drawn rows declares told drew all made on is = record {
+    → AnswersFront routing Later left before written → WritesFront Drew Read bytes before written
+replies_front Drew Read Later bytes left before written now drawn rows routing declares told drew made on is = record {
   drawn = drawn;
   times = now ∷ is.times;
   front = is.front;
   drew = drew;
   read = on is.times is.read;
-  begins = λ more later status text meant. by_cases more later status text meant;
+  begins = λ more later end text meant. by_cases more later end text meant;
   written = is.written;
 }
   where
-    by_cases : (more : List (List ℕ)) (later : List ℕ) (status : ℕ) (text : List ℕ)
-        → IsDryText bytes (drawn ++ more) ((now ∷ is.times) ++ later) status text → IsFront is.front text
-    by_cases more later status text (inr refused) = absurd (refused.refused drafts declares)
-    by_cases more later status text (inl a) =
-        let none = no_more drawn more (row_count drafts) all
-        (a.ids ∙ ap row_count (declaration_unique (line_of bytes) a.drafts drafts a.declares declares)) in
+    by_cases : (more : List (List ℕ)) (later : List ℕ) (end : End) (text : List ℕ)
+        → IsDryText bytes (drawn ++ more) ((now ∷ is.times) ++ later) end text
+        → BeginsText bytes (drawn ++ more) ((now ∷ is.times) ++ later) is.front
+    by_cases more later end text (inr r) =
+        absurd (declared_never now r.now (line_of bytes) drawn (drawn ++ more) more rows
+        (first_time now r.now (is.times ++ later) [] r.clock).0 declares r.refused refl)
+    by_cases more later end text (inl a) =
         let time = first_time now a.now (is.times ++ later) a.later a.clock in
-        let same : rows ≡ rows_of a.now a.drafts (drawn ++ more) =
-        made
-        ∙ ap (λ n. rows_of n drafts drawn) time.0
-        ∙ ap (λ d. rows_of a.now d drawn) (declaration_unique (line_of bytes) drafts a.drafts declares a.declares)
-        ∙ ap (rows_of a.now a.drafts) (sym (append-nil drawn) ∙ ap (λ d. drawn ++ d) (sym none)) in
+        let same = declared_same now a.now (line_of bytes) drawn (drawn ++ more) more rows a.rows time.0 declares a.declares refl in
+        let routes : routing ≡ router_rows a.rows = made ∙ ap router_rows same in
         let ahead = seen_ahead (after_line bytes) (flat_map print_message is.messages) left is.ahead told is.whole in
-        let front = reading_front is.messages a.messages ahead.0 a.rest is.each a.reading.each (sym ahead.2 ∙ a.reading.whole) (ended a.whole) in
-        let read = texts_front rows is.messages a.messages front in
-        let begun = front_front is.front (texts rows 0 is.messages) (texts rows 0 a.messages) is.begins read in
-        (begun.0, a.written ∙ ap (λ r. texts r 0 a.messages) (sym same) ∙ begun.1)
+        let read : IsReading (after_line bytes) is.messages ahead.0 = record { whole = ahead.2; each = is.each } in
+        let few = front_of_whole (after_line bytes) is.messages a.messages ahead.0 a.rest read a.reading is.few is.on (is_last end a.messages a.rest a.ends) in
+        let front = reading_front (after_line bytes) is.messages a.messages ahead.0 a.rest read a.reading few in
+        let all = texts_front (router_rows a.rows) is.messages a.messages (front.0, front.1) in
+        written_so (subst (λ r. FrontOfReplies r is.messages is.ahead is.front) routes is.begins) all few read ahead.1
       where
-        ended : (length a.messages ≡ most_requests) ⊎ BeginsNoRequest a.rest → (length is.messages ≤ length a.messages) ⊎ BeginsNoRequest a.rest
-        ended (inl most) = let few = is.few in inl (omega arith)
-        ended (inr none) = inr none
+        written_so : FrontOfReplies (router_rows a.rows) is.messages is.ahead is.front
+            → IsFront (texts (router_rows a.rows) 0 is.messages) (texts (router_rows a.rows) 0 a.messages) → length is.messages ≤ length a.messages
+            → {rest : List ℕ} → IsReading (after_line bytes) is.messages rest → is.ahead ≡ Some rest
+            → BeginsText bytes (drawn ++ more) ((now ∷ is.times) ++ later) is.front
+        written_so (inl begins) all few read seen = record {
+          end = end;
+          text = text;
+          meant = inl a;
+          front_of =
+              let begun = front_within is.front (texts (router_rows a.rows) 0 is.messages) (texts (router_rows a.rows) 0 a.messages) (last_text end) begins all in
+              (begun.0, a.written ∙ begun.1);
+        }
+        written_so (inr (bad, begins)) all few {rest} read seen =
+            let ends = bad rest seen in
+            let none : BeginsNoRequest rest = subst BeginsNoRequest (append-nil rest) (ends.3 []) in
+            let most = reading_most (after_line bytes) is.messages a.messages rest a.rest read a.reading none in
+            let same = reading_same (after_line bytes) is.messages a.messages rest a.rest read a.reading (omega arith) in
+            record {
+              end = Bad;
+              text = texts (router_rows a.rows) 0 a.messages ++ last_text Bad;
+              meant = inl (record {
+                now = a.now;
+                later = a.later;
+                clock = a.clock;
+                rows = a.rows;
+                declares = a.declares;
+                messages = a.messages;
+                rest = a.rest;
+                reading = a.reading;
+                most = a.most;
+                ends = subst (EndsSo Bad a.messages) same.1 (subst (λ ms. EndsSo Bad ms rest) same.0 ends);
+                one_each = a.one_each;
+                written = refl;
+              });
+              front_of = (begins.0, ap (λ ms. texts (router_rows a.rows) 0 ms ++ last_text Bad) (sym same.0) ∙ begins.1);
+            }
 
 -- ---- a whole run
 
--- a test that holds decides an `or`
-or_true : (b : Bool) → (b || true) ≡ true
-or_true true = refl
-or_true false = refl
-
 -- the refusal was written
 pub refusal_written : (Drew : List (List ℕ) → Type 0) (Read : List ℕ → Type 0) (bytes : List ℕ) (before now : Option (List ℕ))
-    (time : ℕ) → Drew [] → Read (time ∷ []) → ((drafts : List ServiceDraft) → ¬ (IsDeclaration (line_of bytes) drafts))
-    → now ≡ with_end before refusal_line → WritesText Drew Read bytes before now 3
-refusal_written Drew Read bytes before now time drew read refused written = record {
-  drawn = [];
+    (drawn : List (List ℕ)) (time : ℕ) → Drew drawn → Read (time ∷ []) → IsDeclared time (line_of bytes) drawn None
+    → now ≡ with_end before refusal_line → WritesText Drew Read bytes before now Refused
+refusal_written Drew Read bytes before now drawn time drew read refused written = record {
+  drawn = drawn;
   times = time ∷ [];
   text = refusal_line;
   drew = drew;
   read = read;
-  meant = inr (record { refused = refused; ids = refl; clock = refl; ending = refl; written = refl });
+  meant = inr (record { now = time; clock = refl; refused = refused; ending = refl; written = refl });
   written = written;
 }
 
--- the status that follows from the end
-ending_of : (end : End) (count : ℕ) (ms : List Message) (rest : List ℕ) → length ms ≡ count → EndsSo end count (Some rest)
-    → (status_of end ≡ status_after ms rest) × ((length ms ≡ most_requests) ⊎ BeginsNoRequest rest)
-ending_of Closed count ms rest counted ends =
-    let none : rest ≡ [] = ends rest refl in
-    (let e : length rest ≡ 0 = ap length none in grind (arith, nat_tests), inr (rw none nothing_begins))
-ending_of Spent count ms rest counted ends =
-    let e : length ms ≡ most_requests = counted ∙ ends in
-    (grind (arith, nat_tests), inl e)
-ending_of Left count ms rest counted ends =
-    let few : count < most_requests = ends.0 in
-    let left = ends.1 rest refl in
-    (let some : 0 < length rest = left.0 in grind (arith, nat_tests), inr left.1)
-ending_of Refused count ms rest counted ends = absurd ends
-
 -- the replies were written
 pub replies_written : (Drew : List (List ℕ) → Type 0) (Read Later : List ℕ → Type 0) (bytes : List ℕ) (left before written : Option (List ℕ))
-    (now : ℕ) (drafts : List ServiceDraft) (drawn : List (List ℕ)) (rows : Rows) (end : End)
-    → IsDeclaration (line_of bytes) drafts → left ≡ Some (after_line bytes)
-    → Drew drawn → length drawn ≡ row_count drafts → rows ≡ rows_of now drafts drawn
+    (now : ℕ) (drawn : List (List ℕ)) (rows : Rows) (routing : RouterRows) (end : End)
+    → Declares now (line_of bytes) drawn rows → left ≡ Some (after_line bytes)
+    → Drew drawn → routing ≡ router_rows rows
     → ((times : List ℕ) → Later times → Read (now ∷ times))
-    → AnswersAll rows Later left before written end → WritesText Drew Read bytes before written (status_of end)
-replies_written Drew Read Later bytes left before written now drafts drawn rows end declares told drew all made on is =
+    → AnswersAll routing Later left before written end → WritesText Drew Read bytes before written end
+replies_written Drew Read Later bytes left before written now drawn rows routing end declares told drew made on is =
     let done = is.answered in
-    let ahead = seen_ahead (after_line bytes) (flat_map print_message done.messages) left is.ahead told done.whole in
-    let ends = ending_of end is.count done.messages ahead.0 done.counted (subst (EndsSo end is.count) ahead.1 is.ends) in
+    let ahead = seen_ahead (after_line bytes) (flat_map print_message is.messages) left is.ahead told done.whole in
+    let replies = texts routing 0 is.messages in
     record {
       drawn = drawn;
       times = now ∷ done.times;
-      text = texts rows 0 done.messages;
+      text = replies ++ last_text end;
       drew = drew;
       read = on done.times done.read;
       meant = inl (record {
-        drafts = drafts;
-        declares = declares;
-        ids = all;
-        messages = done.messages;
-        rest = ahead.0;
-        reading = record { whole = ahead.2; each = done.each };
-        most = let few = is.most in let counted = done.counted in omega arith;
-        whole = ends.1;
         now = now;
         later = done.times;
         clock = refl;
-        one_each = done.one_each ∙ sym done.counted;
-        ending = ends.0;
-        written = ap (λ r. texts r 0 done.messages) made;
+        rows = rows;
+        declares = declares;
+        messages = is.messages;
+        rest = ahead.0;
+        reading = record { whole = ahead.2; each = done.each };
+        most = is.most;
+        ends = is.ends ahead.0 ahead.1;
+        one_each = done.one_each;
+        written = ap (λ r. texts r 0 is.messages ++ last_text end) made;
       });
-      written = done.written;
+      written = is.last ∙ ap (λ w. with_end w (last_text end)) done.written ∙ sym (with_end-append before replies (last_text end));
     }
 
 -- ---- one text
 
--- the requests of two whole readings are the same, and so is the rest
-same_reading : (bytes : List ℕ) (ms ns : List Message) (left rest : List ℕ) → IsReading bytes ms left → IsReading bytes ns rest
-    → length ms ≤ most_requests → length ns ≤ most_requests
-    → (length ms ≡ most_requests) ⊎ BeginsNoRequest left → (length ns ≡ most_requests) ⊎ BeginsNoRequest rest
-    → (ms ≡ ns) × (left ≡ rest)
-same_reading bytes ms ns left rest a b few less mine yours =
-    let there = reading_front ms ns left rest a.each b.each (sym a.whole ∙ b.whole) (ended ms ns rest few yours) in
-    let back = reading_front ns ms rest left b.each a.each (sym b.whole ∙ a.whole) (ended ns ms left less mine) in
-    let long = ap length there.1 in
-    let short = ap length back.1 in
-    let none : there.0 ≡ [] = nil_from_length there.0 (omega (arith, length-append ms there.0, length-append ns back.0)) in
-    let same : ns ≡ ms = there.1 ∙ ap (λ zs. ms ++ zs) none ∙ append-nil ms in (
-      sym same,
-      append_cancel_left (flat_map print_message ms) left rest
-          (sym a.whole ∙ b.whole ∙ ap (λ xs. flat_map print_message xs ++ rest) same),
-    )
-  where
-    ended : (xs ys : List Message) (z : List ℕ) → length xs ≤ most_requests → (length ys ≡ most_requests) ⊎ BeginsNoRequest z
-        → (length xs ≤ length ys) ⊎ BeginsNoRequest z
-    ended xs ys z few (inl most) = inl (omega arith)
-    ended xs ys z few (inr none) = inr none
+-- of two ends and texts of a run
+pub record AreAlike (end : End) (text : List ℕ) (other : End) (more : List ℕ) : Type 0 where
+  pub ends : (end ≡ other) ⊎ (IsBroken end × IsBroken other)
+  pub texts : DifferAtEnd end text other more
 
--- the text and the status follow from what was read
-pub one_text : (bytes : List ℕ) (drawn : List (List ℕ)) (times : List ℕ) (status : ℕ) (text : List ℕ) (other : ℕ) (more : List ℕ)
-    → IsDryText bytes drawn times status text → IsDryText bytes drawn times other more → (status ≡ other) × (text ≡ more)
-one_text bytes drawn times status text other more (inl a) (inr b) = absurd (b.refused a.drafts a.declares)
-one_text bytes drawn times status text other more (inr a) (inl b) = absurd (a.refused b.drafts b.declares)
-one_text bytes drawn times status text other more (inr a) (inr b) = (a.ending ∙ sym b.ending, a.written ∙ sym b.written)
-one_text bytes drawn times status text other more (inl a) (inl b) =
-    let drafts = declaration_unique (line_of bytes) a.drafts b.drafts a.declares b.declares in
-    let same = same_reading (after_line bytes) a.messages b.messages a.rest b.rest a.reading b.reading a.most b.most a.whole b.whole in
-    let time = first_time a.now b.now a.later b.later (sym a.clock ∙ b.clock) in (
-      a.ending ∙ ap (λ ms. status_after ms a.rest) same.0 ∙ ap (status_after b.messages) same.1 ∙ sym b.ending,
-      a.written
-          ∙ ap (λ n. texts (rows_of n a.drafts drawn) 0 a.messages) time.0
-          ∙ ap (λ d. texts (rows_of b.now d drawn) 0 a.messages) drafts
-          ∙ ap (texts (rows_of b.now b.drafts drawn) 0) same.0
-          ∙ sym b.written,
-    )
+-- the ends are one, or both tell of a broken message, and the texts differ there alone
+pub alike : (bytes : List ℕ) (drawn : List (List ℕ)) (times : List ℕ) (end : End) (text : List ℕ) (other : End) (more : List ℕ)
+    → IsDryText bytes drawn times end text → IsDryText bytes drawn times other more → AreAlike end text other more
+alike bytes drawn times end text other more (inl a) (inr b) =
+    absurd (declared_never a.now b.now (line_of bytes) drawn drawn [] a.rows
+    (first_time a.now b.now a.later [] (sym a.clock ∙ b.clock)).0 a.declares b.refused (sym (append-nil drawn)))
+alike bytes drawn times end text other more (inr a) (inl b) =
+    absurd (refused_never a.now b.now (line_of bytes) drawn drawn [] b.rows
+    (first_time a.now b.now [] b.later (sym a.clock ∙ b.clock)).0 a.refused b.declares (sym (append-nil drawn)))
+alike bytes drawn times end text other more (inr a) (inr b) = record {
+  ends = inl (a.ending ∙ sym b.ending);
+  texts = (refusal_line, bare end text a.ending a.written, bare other more b.ending b.written);
+}
+  where
+    bare : (e : End) (t : List ℕ) → e ≡ Refused → t ≡ refusal_line → t ≡ refusal_line ++ last_text e
+    bare e t is written = written ∙ sym (append-nil refusal_line) ∙ ap (λ x. refusal_line ++ last_text x) (sym is)
+alike bytes drawn times end text other more (inl a) (inl b) =
+    let time = first_time a.now b.now a.later b.later (sym a.clock ∙ b.clock) in
+    let rows = declared_same a.now b.now (line_of bytes) drawn drawn [] a.rows b.rows time.0 a.declares b.declares (sym (append-nil drawn)) in
+    let same = same_whole (after_line bytes) a.messages b.messages a.rest b.rest end other a.reading b.reading a.most b.most a.ends b.ends in
+    let ends = subst (EndsSo other a.messages) (sym same.1) (subst (λ ms. EndsSo other ms b.rest) (sym same.0) b.ends) in
+    record {
+      ends = one_end end other a.messages a.rest a.ends ends;
+      texts = (
+        texts (router_rows a.rows) 0 a.messages,
+        a.written,
+        b.written
+            ∙ ap (λ r. texts (router_rows r) 0 b.messages ++ last_text other) (sym rows)
+            ∙ ap (λ ms. texts (router_rows a.rows) 0 ms ++ last_text other) (sym same.0),
+      );
+    }
+
+-- so the status is one
+pub one_status : (end other : End) → (end ≡ other) ⊎ (IsBroken end × IsBroken other) → status_of end ≡ status_of other
+one_status end other (inl same) = ap status_of same
+one_status end other (inr (broken, also)) = seven end broken ∙ sym (seven other also)
+  where
+    seven : (e : End) → IsBroken e → status_of e ≡ 7
+    seven e (inl bad) = ap status_of bad
+    seven e (inr cut) = ap status_of cut
 
 -- ---- results
 

@@ -1,18 +1,9 @@
 mod DeclaredMembers
 mod DeclaredRows
 mod DeclaredTexts
-mod HeldLemmas
-mod JudgeLemmas
+mod IdLemmas
 mod LineLemmas
-mod ReaderLemmas
-mod WriteLemmas
+mod UpstreamLemmas
 pub mod AnsweredLemmas
-pub mod BestRoute
-pub mod Choices
 pub mod DryLemmas
-pub mod Foremost
-pub mod HopByHopLemmas
-pub mod MessageLemmas
-pub mod PhraseLemmas
-pub mod RouteOrder
-pub mod UpstreamLemmas
+pub mod EndLemmas

@@ -1,12 +1,12 @@
 -- Reading a line byte by byte.
-use Rattle.std.proofs.Common.{◌≡◌, ℕ, ◌+◌, ◌<◌, ◌≤◌, Bool, not, cond, List, [], ◌∷◌, ◌++◌, length, take, drop, slice_index_or, Option, Some, None, refl, sym, ap, ◌∙◌, eq-eqb, arith}
+use Rattle.std.proofs.Common.{◌≡◌, ℕ, ◌+◌, ◌<◌, ◌≤◌, not, cond, List, [], ◌∷◌, ◌++◌, length, take, drop, slice_index_or, Option, Some, None, refl, sym, ap, ◌∙◌, eq-eqb, arith}
 use Rattle.std.specs.List.{position_or_len}
 use Rattle.std.proofs.lemmas.Bool.{ne_eqb}
-use Rattle.std.proofs.lemmas.List.{take_more, take_at, length-append, length-take-le}
+use Rattle.std.proofs.lemmas.List.{take_more, take_at}
 use Rattle.std.proofs.lemmas.List.Folds.{prefix_len-append, length-prefix_len}
 use Rattle.std.proofs.Math.Seq.{drop-append-add}
 use Rattle.kg_outside.specs.Moves.{with_front}
-use Rattle.kg_lone.specs.Reading.{is_line_feed, line_of, after_line, IsFirstLine}
+use Rattle.kg_lone.specs.FirstLine.{is_line_feed, line_of, after_line, IsFirstLine}
 
 -- where a front has no line feed, the first one is that of the rest
 feed_free_append : (line rest : List ℕ) → position_or_len is_line_feed line ≡ length line

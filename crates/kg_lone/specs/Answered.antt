@@ -1,51 +1,70 @@
 -- How far a connection's requests are answered (this project's own).
-use Rattle.std.specs.Prelude.{◌≡◌, ℕ, ◌+◌, ◌≤◌, ◌<◌, ◌⊎◌, List, [], ◌∷◌, ◌++◌, length, Option, Some}
+use Rattle.std.specs.Prelude.{◌≡◌, ℕ, ◌≤◌, ◌⊎◌, List, ◌++◌, length, Option, Some}
 use Rattle.std.specs.List.{flat_map, AllByRecursion}
 use Rattle.kg_outside.specs.Moves.{with_front, with_end}
-use Rattle.kg_lone.specs.DryText.{IsFront, local_address, most_requests, texts}
-use Rattle.kg_lone.specs.Messages.{Message, IsRequest, BeginsNoRequest, print_message, request_of}
-use Rattle.kg_lone.specs.Plain.{reply_to}
+use Rattle.kg_router.specs.RouterRows.{RouterRows}
+use Rattle.kg_wire.specs.Messages.{Message, IsRequest, print_message}
+use Rattle.kg_lone.specs.DryText.{EndsSo, GoOn, IsFront, last_text, most_requests, texts}
 use Rattle.kg_lone.specs.declared.dry.End.{End}
-use Rattle.kg_lone.specs.declared.dry.End.TheVariants.{Closed, Spent, Left, Refused}
-use Rattle.kg_lone.specs.declared.rows.Rows.{Rows}
+use Rattle.kg_lone.specs.declared.dry.End.TheVariants.{Bad}
 
--- so many requests were read, each got its reply, and the clock was read once for each
-pub record Answered (rows : Rows) (Read : List ℕ → Type 0) (ahead_before ahead_now written_before written_now : Option (List ℕ))
-    (count : ℕ) : Type 0 where
-  pub messages : List Message
+-- these requests were read, each got its reply, and the clock was read once for each
+pub record Answered (rows : RouterRows) (Read : List ℕ → Type 0) (ahead_before ahead_now written_before written_now : Option (List ℕ))
+    (messages : List Message) : Type 0 where
   pub times : List ℕ
-  pub counted : length messages ≡ count
-  pub one_each : length times ≡ count
+  pub one_each : length times ≡ length messages
   pub read : Read times
   pub each : AllByRecursion IsRequest messages
   pub whole : ahead_before ≡ with_front (flat_map print_message messages) ahead_now
   pub written : written_now ≡ with_end written_before (texts rows 0 messages)
 
--- why no further request is answered, where these bytes are ahead
-abbrev pub EndsSo : End → ℕ → Option (List ℕ) → Type 0
-EndsSo Closed count ahead = (rest : List ℕ) → ahead ≡ Some rest → rest ≡ []
-EndsSo Spent count ahead = count ≡ most_requests
-EndsSo Left count ahead =
-    (count < most_requests) × ((rest : List ℕ) → ahead ≡ Some rest → (0 < length rest) × BeginsNoRequest rest)
-EndsSo Refused count ahead = ⊥
+-- so many were answered, none of which asks for the end
+pub record AnsweredOn (rows : RouterRows) (Read : List ℕ → Type 0) (ahead_before ahead_now written_before written_now : Option (List ℕ))
+    (count : ℕ) : Type 0 where
+  pub messages : List Message
+  pub counted : length messages ≡ count
+  pub on : GoOn messages
+  pub answered : Answered rows Read ahead_before ahead_now written_before written_now messages
+
+-- the answering ends so, wherever what is ahead is observable
+abbrev pub EndsAhead : End → List Message → Option (List ℕ) → Type 0
+EndsAhead end messages ahead = (rest : List ℕ) → ahead ≡ Some rest → EndsSo end messages rest
 
 -- the requests are answered as far as they go
-pub record AnswersAll (rows : Rows) (Read : List ℕ → Type 0) (left_before written_before written_now : Option (List ℕ)) (end : End) : Type 0 where
-  pub count : ℕ
-  pub most : count ≤ most_requests
+pub record AnswersAll (rows : RouterRows) (Read : List ℕ → Type 0) (left_before written_before written_now : Option (List ℕ)) (end : End) : Type 0 where
+  pub messages : List Message
+  pub most : length messages ≤ most_requests
   pub ahead : Option (List ℕ)
-  pub answered : Answered rows Read left_before ahead written_before written_now count
-  pub ends : EndsSo end count ahead
+  pub replied : Option (List ℕ)
+  pub answered : Answered rows Read left_before ahead written_before replied messages
+  pub ends : EndsAhead end messages ahead
+  pub last : written_now ≡ with_end replied (last_text end)
 
--- the answering was cut short in the reply to a request, or between two
-pub record AnswersFront (rows : Rows) (Read : List ℕ → Type 0) (left_before written_before written_now : Option (List ℕ)) : Type 0 where
+-- all of these but perhaps the last go on
+pub record OnlyLastMayAsk (messages : List Message) : Type 0 where
+  pub before : List Message
+  pub last : List Message
+  pub joined : messages ≡ before ++ last
+  pub on : GoOn before
+  pub one : length last ≤ 1
+
+-- a front of the replies to these requests was written, or all of them and a front of the 400 of a
+-- refused message
+abbrev pub FrontOfReplies : RouterRows → List Message → Option (List ℕ) → List ℕ → Type 0
+FrontOfReplies rows messages ahead front =
+    IsFront front (texts rows 0 messages)
+    ⊎ (EndsAhead Bad messages ahead × IsFront front (texts rows 0 messages ++ last_text Bad))
+
+-- the answering was cut short in a text, or between two
+pub record AnswersFront (rows : RouterRows) (Read : List ℕ → Type 0) (left_before written_before written_now : Option (List ℕ)) : Type 0 where
   pub messages : List Message
   pub few : length messages ≤ most_requests
+  pub on : OnlyLastMayAsk messages
   pub times : List ℕ
   pub read : Read times
   pub each : AllByRecursion IsRequest messages
   pub ahead : Option (List ℕ)
   pub whole : left_before ≡ with_front (flat_map print_message messages) ahead
   pub front : List ℕ
-  pub begins : IsFront front (texts rows 0 messages)
+  pub begins : FrontOfReplies rows messages ahead front
   pub written : written_now ≡ with_end written_before front

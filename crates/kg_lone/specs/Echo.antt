@@ -1,8 +1,8 @@
 -- The echo, which stands for every upstream: it answers with the message that it was sent (this
 -- project's own).
 use Rattle.std.specs.Prelude.{ℕ, List, [], ◌∷◌, codes}
-use Rattle.kg_lone.specs.declared.message.Response.{Response}
-use Rattle.kg_lone.specs.HeaderLists.{content_type}
+use Rattle.kg_message.specs.declared.response.Response.{Response}
+use Rattle.kg_message.specs.HeaderLists.{content_type}
 
 -- the answer to this message
 abbrev pub echo_of : List ℕ → Response

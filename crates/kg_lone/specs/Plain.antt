@@ -1,24 +1,24 @@
 -- The plain gateway: what one request gets, a function of the rows and the request alone (Kong Gateway
 -- manual, "Routes" and "Services"; that the upstream is an echo is this project's own).
-use Rattle.std.specs.Prelude.{ℕ, Bool, List, Option, Some, None, codes, if◌then◌else◌}
+use Rattle.std.specs.Prelude.{ℕ, Bool, false, List, Option, Some, None, codes}
 use Rattle.std.specs.Str.{bytes_eq}
-use Rattle.kg_lone.specs.Best.{Choice, choice_of}
+use Rattle.kg_message.specs.GatewayMessage.{gateway_message}
+use Rattle.kg_message.specs.declared.request.Request.{Request}
+use Rattle.kg_message.specs.declared.response.Response.{Response}
+use Rattle.kg_router.specs.Best.{Choice, best_choice}
+use Rattle.kg_router.specs.RouterRows.{RouterRows}
+use Rattle.kg_wire.specs.Connection.{keeping_of}
+use Rattle.kg_wire.specs.ReplyText.{reply_text}
+use Rattle.kg_wire.specs.UpstreamText.{upstream_text}
+use Rattle.kg_wire.specs.declared.connection.Keeping.TheVariants.{Close}
 use Rattle.kg_lone.specs.Echo.{echo_of}
-use Rattle.kg_lone.specs.GatewayMessage.{gateway_message}
-use Rattle.kg_lone.specs.HopByHop.{end_to_end}
-use Rattle.kg_lone.specs.ReplyText.{reply_text}
+use Rattle.kg_lone.specs.UpstreamFields.{upstream_fields}
 use Rattle.kg_lone.specs.UpstreamPath.{host_for, target_for}
-use Rattle.kg_lone.specs.UpstreamText.{upstream_text}
-use Rattle.kg_lone.specs.declared.message.Request.{Request}
-use Rattle.kg_lone.specs.declared.message.Response.{Response}
-use Rattle.kg_lone.specs.declared.reply.Keeping.{Keeping}
-use Rattle.kg_lone.specs.declared.reply.Keeping.TheVariants.{Silent, Close}
-use Rattle.kg_lone.specs.declared.rows.Rows.{Rows}
 
 -- the message that goes upstream for a request, at its choice
 unfoldable pub upstream_message : Choice → Request → List ℕ
 upstream_message choice request =
-    upstream_text request.method (target_for choice request) (host_for choice request) request (end_to_end request.headers)
+    upstream_text request.method (target_for choice request) (host_for choice request) request (upstream_fields request.headers)
 
 -- the reply to a request that no route takes
 unfoldable pub no_route : Response
@@ -30,17 +30,22 @@ response_at None request = no_route
 response_at (Some choice) request = echo_of (upstream_message choice request)
 
 -- the response to a request
-abbrev pub plain : Rows → Request → Response
-plain rows request = response_at (choice_of rows request.path) request
+abbrev pub plain : RouterRows → Request → Response
+plain rows request = response_at (best_choice rows.services rows.routes request) request
 
 -- a reply to HEAD has no body
 abbrev pub is_bodiless : Request → Bool
 is_bodiless request = bytes_eq request.method (codes "HEAD")
 
--- the last reply of a connection says that it ends
-abbrev pub keeping_of : Bool → Keeping
-keeping_of last = if last then Close else Silent
+-- the text of the reply to a request, where `last` tells that it is the connection's last whatever the
+-- request asks
+unfoldable pub reply_to : RouterRows → Bool → Request → List ℕ
+reply_to rows last request = reply_text (plain rows request) (is_bodiless request) (keeping_of last request)
 
--- the text of the reply to a request
-unfoldable pub reply_to : Rows → Bool → Request → List ℕ
-reply_to rows last request = reply_text (plain rows request) (is_bodiless request) (keeping_of last)
+-- the reply to a message that is refused
+unfoldable pub bad_request : Response
+bad_request = gateway_message 400 (codes "Bad request")
+
+-- its text: the connection ends with it
+unfoldable pub bad_request_text : List ℕ
+bad_request_text = reply_text bad_request false Close

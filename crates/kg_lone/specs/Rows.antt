@@ -2,7 +2,6 @@
 -- declaration leaves out are the defaults of Kong's Admin API ("Service", "Route").
 use Rattle.std.specs.Prelude.{◌≡◌, ℕ, ◌+◌, ◌/◌, true, false, pos, List, [], length, drop, map, sum_by, Result, IfOk}
 use Rattle.std.specs.List.{flat_map, zip}
-use Rattle.kg_text.specs.declared.error.NoMemory.{NoMemory}
 use Rattle.kg_entities.specs.Ids.{drawn_id}
 use Rattle.kg_entities.specs.declared.route.Route.{Route}
 use Rattle.kg_entities.specs.declared.service.Service.{Service}
@@ -91,8 +90,8 @@ pub record AreRoutes (seconds : ℕ) (owned : List OwnedRoute) (drawn : List (Li
   pub routes : made ≡ routes_with seconds owned (map drawn_id drawn)
 
 -- the ids that a call drew, and what it made of them if there was memory
-pub record Draws {S T : Type 0} (draws : S → S → List (List ℕ) → Type 0) (before now : S)
-    (result : Result T NoMemory) (Makes : List (List ℕ) → T → Type 0) : Type 0 where
+pub record Draws {S T E : Type 0} (draws : S → S → List (List ℕ) → Type 0) (before now : S)
+    (result : Result T E) (Makes : List (List ℕ) → T → Type 0) : Type 0 where
   pub drawn : List (List ℕ)
   pub moved : draws before now drawn
   pub makes : IfOk result (Makes drawn)

@@ -2,8 +2,8 @@
 -- sees (Kong Admin API, "Route": strip_path, preserve_host; the join is this project's own).
 use Rattle.std.specs.Prelude.{ℕ, ◌-◌, ◌==◌, Bool, List, ◌++◌, take, drop, length, nat_eq, codes, decimal, Option, Some, None, unwrap_or, if◌then◌else◌}
 use Rattle.std.specs.List.{starts_with, ends_with}
-use Rattle.kg_lone.specs.declared.message.Request.{Request}
-use Rattle.kg_lone.specs.Best.{Choice}
+use Rattle.kg_message.specs.declared.request.Request.{Request}
+use Rattle.kg_router.specs.Best.{Choice}
 
 -- the path without one `/` at its end
 abbrev pub without_last_slash : List ℕ → List ℕ

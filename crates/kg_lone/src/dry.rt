@@ -3,24 +3,26 @@
 #[cfg(test)]
 mod tests;
 
-ghost use Rattle.std.specs.Prelude.{◌≡◌, ◌≢◌, ◌<◌, ◌⊎◌, ◌↔◌, ℕ, List as Sequence, [], ◌∷◌, Some, IsTrue, IfOk, IfErr, OnOk, OnErr, IsErrOf, codes};
+ghost use Rattle.std.specs.Prelude.{◌≡◌, ◌≢◌, ◌⊎◌, ◌↔◌, ℕ, List as Sequence, [], ◌∷◌, Some, IsTrue, IfOk, IfSome, OnOk, OnErr, IsErrOf};
 ghost use Rattle.kg_outside.specs.Causes.{Rose};
 ghost use Rattle.kg_outside.specs.Moves.{with_end};
+ghost use Rattle.kg_router.specs.RouterRows.{HasDistinctRoutes};
 ghost use Rattle.kg_lone.specs.Answered.{AnswersAll, AnswersFront};
-ghost use Rattle.kg_lone.specs.DryRun.{FindsFirst, IsCutShort, IsDryWords, IsExit, IsWhole, status_of};
+ghost use Rattle.kg_lone.specs.DryRun.{DifferAtEnd, FindsFirst, IsBroken, IsCutShort, IsDryWords, IsExit, IsWhole, WritesWhole, status_of};
 ghost use Rattle.kg_lone.specs.DryText.{IsDryText, IsFront, WritesFront, WritesText, refusal_line};
-ghost use Rattle.kg_lone.specs.Plain.{reply_to};
+ghost use Rattle.kg_lone.specs.Plain.{bad_request_text, reply_to};
+ghost use Rattle.kg_lone.specs.Rows.{Draws};
+ghost use Rattle.kg_lone.specs.declared.dry.End.{End as AnEnd};
 
-use crate::declaration::{ServiceDraft, read_declaration};
+use crate::declared::declared_rows;
 use crate::line::{FirstLine, LineError, first_line};
-use crate::message::Request;
 use crate::plain;
-use crate::reader::{ReadError, Reader};
-use crate::router::Router;
-use crate::rows::make_rows;
-use crate::write::write_whole;
+use crate::rows::Rows;
+use kg_message::Request;
 use kg_outside::{Clock, Failed, Ids, Sink, Source};
+use kg_router::RouterGen;
 use kg_text::{List, NoMemory, Text};
+use kg_wire::{ReadError, Reader, asks_for_end, write_whole};
 use std::alloc::Global;
 
 // How many requests one connection answers.
@@ -35,12 +37,16 @@ const LOCAL_ADDRESS: [u8; 4] = [127, 0, 0, 1];
 /// How a run ended that was not cut short.
 #[derive(Clone, Copy, Debug)]
 pub enum End {
-    /// The stream ended after a whole request, or before the first one.
+    /// The stream ended between two messages.
     Closed,
+    /// The last request asked for the end of the connection.
+    Asked,
     /// As many requests were answered as one connection may have.
     Spent,
-    /// Bytes are left that begin no request.
-    Left,
+    /// The next message was refused.
+    Bad,
+    /// The stream ended inside a message.
+    Cut,
     /// The first line declares nothing that is accepted.
     Refused,
 }
@@ -76,12 +82,13 @@ impl From<Failed> for Stop {
 // Answers one request, with the clock read once before it.
 fn answer_one<K: Sink, T: Clock>(
     alloc: Global,
-    router: &Router,
+    router: &RouterGen,
     request: &Request,
     last: bool,
     sink: &mut K,
     clock: &mut T,
 ) -> Result<(), Stop>
+    requires { HasDistinctRoutes router.now.routes }
     ensures ok { OnOk result (K.written sink.new ≡ with_end (K.written sink.old) (reply_to router.now last request.now)) }
     ensures err { OnErr result ((front : Sequence ℕ) × (IsFront front (reply_to router.now last request.now))
         × (K.written sink.new ≡ with_end (K.written sink.old) front)) }
@@ -96,17 +103,32 @@ fn answer_one<K: Sink, T: Clock>(
     Ok(())
 }
 
+// Answers a message that is refused.
+fn answer_bad<K: Sink>(alloc: Global, sink: &mut K) -> Result<(), Stop>
+    ensures ok { OnOk result (K.written sink.new ≡ with_end (K.written sink.old) bad_request_text) }
+    ensures err { OnErr result ((front : Sequence ℕ) × (IsFront front bad_request_text)
+        × (K.written sink.new ≡ with_end (K.written sink.old) front)) }
+    ensures kept { OnOk result (K.faults sink.new ≡ K.faults sink.old) }
+    ensures read { IsErrOf result Stop.ReadFault → ⊥ }
+    ensures write { IsErrOf result Stop.WriteFault → Rose (K.faults sink.old) (K.faults sink.new) }
+{
+    let text = plain::bad_request_text(alloc)?;
+    write_whole(sink, text.as_slice())?;
+    Ok(())
+}
+
 // Answers the requests of the source, one after another.
 fn answer_all<S: Source, K: Sink, T: Clock>(
     alloc: Global,
-    router: &Router,
+    router: &RouterGen,
     source: &mut S,
     sink: &mut K,
     clock: &mut T,
 ) -> Result<End, Stop>
+    requires { HasDistinctRoutes router.now.routes }
     ensures ok { IfOk result (AnswersAll router.now (T.reads clock.old clock.new) (S.left source.old) (K.written sink.old) (K.written sink.new)) }
     ensures err { OnErr result (AnswersFront router.now (T.reads clock.old clock.new) (S.left source.old) (K.written sink.old) (K.written sink.new)) }
-    ensures kept_read { IfOk result (λ end. end ≢ End.Left → S.faults source.new ≡ S.faults source.old) }
+    ensures kept_read { IfOk result (λ end. ¬ (IsBroken end) → S.faults source.new ≡ S.faults source.old) }
     ensures kept_write { OnOk result (K.faults sink.new ≡ K.faults sink.old) }
     ensures read { IsErrOf result Stop.ReadFault → Rose (S.faults source.old) (S.faults source.new) }
     ensures write { IsErrOf result Stop.WriteFault → Rose (K.faults sink.old) (K.faults sink.new) }
@@ -116,19 +138,21 @@ fn answer_all<S: Source, K: Sink, T: Clock>(
     while count < MOST_REQUESTS {
         match reader.next_request(alloc, source) {
             Ok(Some(request)) => {
-                answer_one(
-                    alloc,
-                    router,
-                    &request,
-                    count + 1 == MOST_REQUESTS,
-                    sink,
-                    clock,
-                )?;
+                let last = count + 1 == MOST_REQUESTS;
+                answer_one(alloc, router, &request, last, sink, clock)?;
+                if asks_for_end(&request) {
+                    return Ok(End::Asked);
+                }
                 count += 1;
             }
             Ok(None) => return Ok(End::Closed),
-            Err(ReadError::Bad { at: _ }) => return Ok(End::Left),
-            Err(ReadError::Cut { have: _ }) => return Ok(End::Left),
+            Err(ReadError::Bad { at: _ }) => {
+                answer_bad(alloc, sink)?;
+                return Ok(End::Bad);
+            }
+            Err(ReadError::HeadTooLarge) => unreachable!(),
+            Err(ReadError::BodyTooLarge) => unreachable!(),
+            Err(ReadError::Cut { have: _ }) => return Ok(End::Cut),
             Err(ReadError::ReadFault) => return Err(Stop::ReadFault),
             Err(ReadError::NoMemory) => return Err(Stop::NoMemory),
         }
@@ -136,15 +160,22 @@ fn answer_all<S: Source, K: Sink, T: Clock>(
     Ok(End::Spent)
 }
 
-// Reads the declaration in the first line: None where it is none that is accepted.
-fn declared<S: Source>(alloc: Global, source: &mut S) -> Result<Option<List<ServiceDraft>>, Stop>
-    ensures ok { IfOk result (λ found. (bytes : Sequence ℕ) → S.left source.old ≡ Some bytes → FindsFirst bytes (S.left source.new) found) }
+// The rows that the first line declares: `None` where it is refused.
+fn declared<S: Source, I: Ids>(
+    alloc: Global,
+    source: &mut S,
+    ids: &mut I,
+    now: u64,
+) -> Result<Option<Rows>, Stop>
+    ensures rows { Draws I.draws ids.old ids.new result
+        (λ drawn found. (bytes : Sequence ℕ) → S.left source.old ≡ Some bytes → FindsFirst now bytes (S.left source.new) drawn found) }
+    ensures distinct { IfOk result (λ found. IfSome found (λ rows. HasDistinctRoutes rows.routes)) }
     ensures kept { OnOk result (S.faults source.new ≡ S.faults source.old) }
     ensures read { IsErrOf result Stop.ReadFault → Rose (S.faults source.old) (S.faults source.new) }
     ensures write { IsErrOf result Stop.WriteFault → ⊥ }
 {
     match first_line(alloc, source, MOST_LINE) {
-        Ok(FirstLine::Whole(line)) => Ok(read_declaration(alloc, line.as_slice())?),
+        Ok(FirstLine::Whole(line)) => Ok(declared_rows(alloc, line.as_slice(), ids, now)?),
         Ok(FirstLine::TooLong) => Ok(None),
         Err(LineError::ReadFault) => Err(Stop::ReadFault),
         Err(LineError::NoMemory) => Err(Stop::NoMemory),
@@ -167,24 +198,23 @@ fn dry<S: Source, K: Sink, T: Clock, I: Ids>(
     ids: &mut I,
 ) -> Result<End, Stop>
     ensures ok { IfOk result (λ end. (bytes : Sequence ℕ) → S.left source.old ≡ Some bytes
-        → WritesText (I.draws ids.old ids.new) (T.reads clock.old clock.new) bytes (K.written sink.old) (K.written sink.new) (status_of end)) }
+        → WritesText (I.draws ids.old ids.new) (T.reads clock.old clock.new) bytes (K.written sink.old) (K.written sink.new) end) }
     ensures err { OnErr result ((bytes : Sequence ℕ) → S.left source.old ≡ Some bytes
         → WritesFront (I.draws ids.old ids.new) (T.reads clock.old clock.new) bytes (K.written sink.old) (K.written sink.new)) }
-    ensures kept_read { IfOk result (λ end. end ≢ End.Left → S.faults source.new ≡ S.faults source.old) }
+    ensures kept_read { IfOk result (λ end. ¬ (IsBroken end) → S.faults source.new ≡ S.faults source.old) }
     ensures kept_write { OnOk result (K.faults sink.new ≡ K.faults sink.old) }
     ensures read { IsErrOf result Stop.ReadFault → Rose (S.faults source.old) (S.faults source.new) }
     ensures write { IsErrOf result Stop.WriteFault → Rose (K.faults sink.old) (K.faults sink.new) }
 {
     let now = clock.now();
-    let drafts = match declared(alloc, source)? {
-        Some(drafts) => drafts,
+    let rows = match declared(alloc, source, ids, now)? {
+        Some(rows) => rows,
         None => {
             write_whole(sink, refusal_line())?;
             return Ok(End::Refused);
         }
     };
-    let rows = make_rows(alloc, drafts, ids, now)?;
-    let router = Router::build(alloc, rows)?;
+    let router = RouterGen::build(alloc, 0, &rows.services, &rows.routes)?;
     answer_all(alloc, &router, source, sink, clock)
 }
 
@@ -206,9 +236,11 @@ fn is_same(word: &Text, name: &str) -> bool
 /// Runs the command that the words name, and answers the exit status.
 ///
 /// `dry` reads a declaration in the first line of the source and then requests, and writes the reply to
-/// each: 0 where all was answered, 3 where the declaration was refused, 7 where bytes are left that begin no
-/// request. Other words are 2. A run that was cut short is 4 by a fault of the source, 5 by one of
-/// the sink, and 6 for want of memory.
+/// each, up to the first that asks for the end of the connection or the thousandth. A message that is
+/// refused before is answered with 400, and no more is read. The status is 0 where the source ended between
+/// two messages, the end was asked for or a thousand were answered, 3 where the declaration was refused,
+/// and 7 where a message was refused or the source ended inside one. Other words are 2. A run that was cut
+/// short is 4 by a fault of the source, 5 by one of the sink, and 6 for want of memory.
 pub fn run<S: Source, K: Sink, T: Clock, I: Ids>(
     alloc: Global,
     words: &List<Text>,
@@ -225,7 +257,7 @@ pub fn run<S: Source, K: Sink, T: Clock, I: Ids>(
 
     // The whole text, or a front of it where the run was cut short.
     ensures whole { IsWhole result → (bytes : Sequence ℕ) → S.left source.old ≡ Some bytes
-        → WritesText (I.draws ids.old ids.new) (T.reads clock.old clock.new) bytes (K.written sink.old) (K.written sink.new) result }
+        → WritesWhole (I.draws ids.old ids.new) (T.reads clock.old clock.new) bytes (K.written sink.old) (K.written sink.new) result }
     ensures front { IsCutShort result → (bytes : Sequence ℕ) → S.left source.old ≡ Some bytes
         → WritesFront (I.draws ids.old ids.new) (T.reads clock.old clock.new) bytes (K.written sink.old) (K.written sink.new) }
 
@@ -239,17 +271,27 @@ pub fn run<S: Source, K: Sink, T: Clock, I: Ids>(
     }
     match dry(alloc, source, sink, clock, ids) {
         Ok(End::Closed) => 0,
+        Ok(End::Asked) => 0,
         Ok(End::Spent) => 0,
         Ok(End::Refused) => 3,
-        Ok(End::Left) => 7,
+        Ok(End::Bad) => 7,
+        Ok(End::Cut) => 7,
         Err(Stop::ReadFault) => 4,
         Err(Stop::WriteFault) => 5,
         Err(Stop::NoMemory) => 6,
     }
 }
 
-/// The text of a run is determined by the bytes, the ids that were drawn and the times that were read.
+/// What a run writes is determined by the bytes, the ids that were drawn and the times that were read, and so
+/// is its end, but for one choice. A message that the source ended in may be such that it never becomes a
+/// request, and yet its head, as far as it goes, may go on to a whole head: as one with two Host fields and no
+/// empty line yet. There both ends are allowed, that the message was refused and that it was cut. The status is
+/// 7 at both, and the texts are the same but for the 400 of the refused message.
 pub fn one_text()
-    ensures { (bytes : Sequence ℕ) (drawn : Sequence (Sequence ℕ)) (times : Sequence ℕ) (status : ℕ) (text : Sequence ℕ) (other : ℕ) (more : Sequence ℕ)
-        → IsDryText bytes drawn times status text → IsDryText bytes drawn times other more → (status ≡ other) × (text ≡ more) }
+    ensures end { (bytes : Sequence ℕ) (drawn : Sequence (Sequence ℕ)) (times : Sequence ℕ) (end : AnEnd) (text : Sequence ℕ) (other : AnEnd) (more : Sequence ℕ)
+        → IsDryText bytes drawn times end text → IsDryText bytes drawn times other more → (end ≡ other) ⊎ (IsBroken end × IsBroken other) }
+    ensures status { (bytes : Sequence ℕ) (drawn : Sequence (Sequence ℕ)) (times : Sequence ℕ) (end : AnEnd) (text : Sequence ℕ) (other : AnEnd) (more : Sequence ℕ)
+        → IsDryText bytes drawn times end text → IsDryText bytes drawn times other more → status_of end ≡ status_of other }
+    ensures text { (bytes : Sequence ℕ) (drawn : Sequence (Sequence ℕ)) (times : Sequence ℕ) (end : AnEnd) (text : Sequence ℕ) (other : AnEnd) (more : Sequence ℕ)
+        → IsDryText bytes drawn times end text → IsDryText bytes drawn times other more → DifferAtEnd end text other more }
 {}

@@ -1,7 +1,7 @@
 //! The first line of a stream.
 
 ghost use Rattle.std.specs.Prelude.{◌≡◌, ℕ, List, Some, IfOk, OnOk, IsErrOf};
-ghost use Rattle.kg_lone.specs.Reading.{GivesLine};
+ghost use Rattle.kg_lone.specs.FirstLine.{GivesLine};
 ghost use Rattle.kg_lone.specs.declared.line.LineError.{LineError as Failure};
 ghost use Rattle.kg_lone.specs.declared.line.LineError.TheVariants.{ReadFault as Fault, NoMemory as OutOfMemory};
 ghost use Rattle.kg_outside.specs.Causes.{Rose};

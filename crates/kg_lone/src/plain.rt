@@ -1,38 +1,42 @@
 //! The plain gateway: one request, its route, and the reply.
 
 ghost use Rattle.std.specs.Prelude.{◌≡◌, IfOk};
-ghost use Rattle.kg_lone.specs.Best.{choice_at};
-ghost use Rattle.kg_lone.specs.Plain.{is_bodiless, keeping_of, no_route, plain, reply_to, upstream_message};
+ghost use Rattle.kg_router.specs.Found.{choice_at};
+ghost use Rattle.kg_router.specs.RouterRows.{HasDistinctRoutes};
+ghost use Rattle.kg_lone.specs.Plain.{bad_request, bad_request_text, is_bodiless, no_route, plain, reply_to, upstream_message};
 
 use crate::echo::echo_of;
-use crate::gateway_message::message;
-use crate::message::{Request, Response};
-use crate::reply::{Keeping, render_response};
-use crate::router::{Choice, Router};
-use crate::upstream::{end_to_end, render_request};
+use crate::upstream_fields::upstream_fields;
 use crate::upstream_path::{upstream_host, upstream_target};
+use kg_message::{Request, Response, message};
+use kg_router::{Choice, RouterGen};
 use kg_text::{Bytes, NoMemory};
+use kg_wire::{Keeping, keeping_of, render_request, render_response};
 use std::alloc::Global;
 
-/// The text of the reply to the request. `last` says that the connection ends with it.
+/// The text of the reply to the request. `last` says that the connection ends with it, whatever the request
+/// asks.
 #[tactic(auto, unfolding(crate::specs::Plain::reply_to))]
 pub fn reply_to(
     alloc: Global,
-    router: &Router,
+    router: &RouterGen,
     request: &Request,
     last: bool,
 ) -> Result<Bytes, NoMemory>
+    requires { HasDistinctRoutes router.now.routes }
     ensures { IfOk result (λ text. text ≡ reply_to router.now last request.now) }
 {
     let response = plain(alloc, router, request)?;
-    render_response(alloc, &response, is_bodiless(request), keeping_of(last))
+    let keeping = keeping_of(last, request);
+    render_response(alloc, &response, is_bodiless(request), keeping)
 }
 
 // The response to the request.
-fn plain(alloc: Global, router: &Router, request: &Request) -> Result<Response, NoMemory>
+fn plain(alloc: Global, router: &RouterGen, request: &Request) -> Result<Response, NoMemory>
+    requires { HasDistinctRoutes router.now.routes }
     ensures { IfOk result (λ response. response ≡ plain router.now request.now) }
 {
-    match router.find(request.path.as_bytes()) {
+    match router.find(alloc, request)? {
         Some(choice) => echo_of(alloc, upstream_message(alloc, &choice, request)?),
         None => no_route(alloc),
     }
@@ -43,6 +47,22 @@ fn no_route(alloc: Global) -> Result<Response, NoMemory>
     ensures { IfOk result (λ response. response ≡ no_route) }
 {
     message(alloc, 404, b"no Route matched with those values")
+}
+
+/// The text that answers a message which is refused.
+#[tactic(auto, unfolding(crate::specs::Plain::bad_request_text))]
+pub fn bad_request_text(alloc: Global) -> Result<Bytes, NoMemory>
+    ensures { IfOk result (λ text. text ≡ bad_request_text) }
+{
+    let response = bad_request(alloc)?;
+    render_response(alloc, &response, false, Keeping::Close)
+}
+
+#[tactic(auto, unfolding(crate::specs::Plain::bad_request))]
+fn bad_request(alloc: Global) -> Result<Response, NoMemory>
+    ensures { IfOk result (λ response. response ≡ bad_request) }
+{
+    message(alloc, 400, b"Bad request")
 }
 
 // The message that goes upstream.
@@ -56,7 +76,7 @@ fn upstream_message(
 {
     let target = upstream_target(alloc, choice, request)?;
     let host = upstream_host(alloc, choice, request)?;
-    let headers = end_to_end(alloc, &request.headers)?;
+    let headers = upstream_fields(alloc, &request.headers)?;
     render_request(
         alloc,
         request.method.as_slice(),
@@ -72,15 +92,4 @@ fn is_bodiless(request: &Request) -> bool
     ensures { result ≡ is_bodiless request.now }
 {
     request.method.as_slice() == b"HEAD".as_slice()
-}
-
-// The last reply of a connection says that it ends.
-fn keeping_of(last: bool) -> Keeping
-    ensures { result ≡ keeping_of last }
-{
-    if last {
-        Keeping::Close
-    } else {
-        Keeping::Silent
-    }
 }

@@ -4,13 +4,13 @@
 mod tests;
 
 ghost use Rattle.std.specs.Prelude.{◌≡◌, IfOk, codes, unwrap_or, drop, if◌then◌else◌};
-ghost use Rattle.kg_lone.specs.Best.{choice_at};
+ghost use Rattle.kg_router.specs.Found.{choice_at};
 ghost use Rattle.kg_lone.specs.UpstreamPath.{host_for, host_with_port, joined_path, slash_joined, target_for, without_first_slash, without_last_slash};
 
-use crate::message::Request;
-use crate::router::Choice;
 use itoa::Buffer;
 use kg_entities::Service;
+use kg_message::Request;
+use kg_router::Choice;
 use kg_text::{Bytes, NoMemory};
 use std::alloc::Global;
 

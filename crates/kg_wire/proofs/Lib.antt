@@ -1,11 +1,11 @@
 mod ChecksLemmas
 mod HeldLemmas
 mod JudgeLemmas
-mod NextLemmas
 mod PrintedLemmas
 mod ReaderLemmas
 mod ValueLemmas
 mod WriteLemmas
 pub mod MessageLemmas
+pub mod NextLemmas
 pub mod PhraseLemmas
 pub mod UpstreamLemmas

@@ -14,7 +14,7 @@ use Rattle.kg_wire.proofs.MessageLemmas.{head_reads, message_unique}
 use Rattle.kg_wire.proofs.ReaderLemmas.{grows_ahead}
 
 -- a message has bytes
-message_some : (m : Message) (rest : List ℕ) → IsRequest m → 0 < length (print_message m ++ rest)
+pub message_some : (m : Message) (rest : List ℕ) → IsRequest m → 0 < length (print_message m ++ rest)
 message_some m rest is = head_some _ m.head _ (head_reads m (print_message m ++ rest) rest is.message refl)
 
 -- what is known of the whole is known of what is left

@@ -35,9 +35,10 @@ dry   The first line of standard input declares services and routes (a JSON obje
       is written to standard output. The upstream of every service is an echo: it answers with
       the request that it was sent.
 
-Exit status of dry: 0 every request was answered; 3 the first line was refused; 7 bytes are left
-that begin no request; 4 a fault of standard input; 5 a fault of standard output; 6 want of memory.
-Other words are 2.
+Exit status of dry: 0 the requests were answered, up to the end of standard input, the first that
+asks for the end of the connection or the thousandth; 3 the first line was refused; 7 a message was
+refused (its reply is a 400) or cut; 4 a fault of standard input; 5 a fault of standard output;
+6 want of memory. Other words are 2.
 ";
 
 const VERSION: &str = "kong_node 0.1.0\n";

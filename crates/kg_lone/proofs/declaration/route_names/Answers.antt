@@ -1,7 +1,7 @@
-use Rattle.std.proofs.Common.{◌≡◌, ◌++◌, ◌∙◌, ap, length, map, sym, take, Some, arith}
+use Rattle.std.proofs.Common.{◌≡◌, ◌++◌, ◌∙◌, ap, map, sym, Some}
 use Rattle.std.proofs.lemmas.List.{take_all}
 use Rattle.std.specs.List.{filter_map}
-use Rattle.kg_lone.proofs.DeclaredTexts.{one_more_name, no_more_name, route_names_more, Found}
+use Rattle.kg_lone.proofs.DeclaredTexts.{one_more_name, no_more_name, route_names_more}
 use Rattle.kg_lone.proofs.declaration.route_names.Goals as goal
 use Rattle.kg_lone.proofs.declaration.route_names.Goals.{in-Some+in_ok-push, in_default}
 

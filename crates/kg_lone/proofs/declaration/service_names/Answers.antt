@@ -1,5 +1,5 @@
 use Rattle.std.proofs.Common.{[], Some, ◌≡◌, ◌∙◌, ap, sym}
-use Rattle.kg_lone.proofs.DeclaredTexts.{one_more_name, no_more_name, Found}
+use Rattle.kg_lone.proofs.DeclaredTexts.{one_more_name, no_more_name}
 use Rattle.kg_lone.proofs.declaration.service_names.Goals as goal
 use Rattle.kg_lone.proofs.declaration.service_names.Goals.{in-Some+in_ok-push, in_default}
 

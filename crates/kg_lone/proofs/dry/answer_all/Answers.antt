@@ -1,8 +1,8 @@
 use Rattle.std.proofs.Common.{◌∙◌, ◌∷◌, [], ap, sym, refl, arith}
 use Rattle.kg_outside.specs.Moves.{with_front}
 use Rattle.kg_outside.proofs.Observed.{with_front-nil}
-use Rattle.kg_lone.proofs.AnsweredLemmas.{on_err, none_answered, answers_taken, stopped_at_once, stopped_taken, left_by_bad, left_by_cut}
-use Rattle.kg_lone.specs.Reading.{ReaderState}
+use Rattle.kg_wire.specs.Reading.{ReaderState}
+use Rattle.kg_lone.proofs.AnsweredLemmas.{on_err, none_answered, goes_on, ends_after, ends_asked, stopped_at_once, stopped_bad, stopped_taken, bad_ahead}
 use Rattle.kg_lone.proofs.dry.answer_all.Goals as goal
 
 -- nothing was written before the reader was made
@@ -41,35 +41,42 @@ loop-count-preserved g c = record {
   address = c.next_request.ensures.address ∙ c.loop-count.invariant.address;
   few = omega arith;
   answered =
-      answers_taken _ _ _ _ _ _ _ _ _ _ _ c.loop-count.count c.in-Ok-Some.request c.answer_one.ensures.clock.0
+      goes_on _ _ _ _ _ _ _ _ _ _ _ c.loop-count.count c.in-Ok-Some.request c.answer_one.ensures.clock.0
       c.loop-count.invariant.answered c.loop-count.invariant.address
       (rw c.in-Ok-Some.field-0-is at c.in-Ok-Some.ensures.ok)
       (λ times read. g.met.T.Clock.reads_on _ _ _ times (c.answer_one.ensures.clock.0 ∷ []) read c.answer_one.ensures.clock.1)
-      c.in_ok-answer_one-in-Ok-Some.ensures.ok;
+      c.in_ok-answer_one-in-Ok-Some.ensures.ok
+      (sym c.asks_for_end.ensures ∙ c.if-asks_for_end.false);
   kept_read = c.in-Ok-Some.ensures.kept ∙ c.loop-count.invariant.kept_read;
   kept_write = c.in_ok-answer_one-in-Ok-Some.ensures.kept ∙ c.loop-count.invariant.kept_write;
 }
 
--- what is left never begins a request
+-- the end was asked for
+pub returns-then-asks_for_end-clause-ok : goal.returns-then-asks_for_end-clause-ok
+returns-then-asks_for_end-clause-ok g c =
+    ends_asked _ _ _ _ _ _ _ _ _ _ _ c.loop-count.count c.in-Ok-Some.request c.answer_one.ensures.clock.0
+    c.loop-count.invariant.answered c.loop-count-test.true c.loop-count.invariant.address
+    (rw c.in-Ok-Some.field-0-is at c.in-Ok-Some.ensures.ok)
+    (λ times read. g.met.T.Clock.reads_on _ _ _ times (c.answer_one.ensures.clock.0 ∷ []) read c.answer_one.ensures.clock.1)
+    c.in_ok-answer_one-in-Ok-Some.ensures.ok
+    (sym c.asks_for_end.ensures ∙ c.if-asks_for_end.true)
+
+-- a part of the text that answers a refused message is written
+pub returns-in_err-answer_bad-in-Err-Bad-clause-err : goal.returns-in_err-answer_bad-in-Err-Bad-clause-err
+returns-in_err-answer_bad-in-Err-Bad-clause-err g c =
+    let so_far = c.loop-count.invariant.answered in
+    let ends = rw c.in-Err-Bad.field-0-is at (c.in-Err-Bad.ensures.err c.loop-count.invariant.goes_on) in
+    let front = c.in_err-answer_bad-in-Err-Bad.ensures.err in
+    on_err _
+    (stopped_bad _ _ _ _ _ _ _ c.loop-count.count front.0 so_far c.loop-count.invariant.few
+    (bad_ahead so_far.messages c.loop-count.count _ _ _ _ _ _ so_far.on so_far.counted c.loop-count-test.true ends.0 ends.1)
+    front.1 front.2)
+
+-- all of it is
 pub returns-in-Err-Bad-clause-ok : goal.returns-in-Err-Bad-clause-ok
 returns-in-Err-Bad-clause-ok g c =
+    let so_far = c.loop-count.invariant.answered in
     let ends = rw c.in-Err-Bad.field-0-is at (c.in-Err-Bad.ensures.err c.loop-count.invariant.goes_on) in
-    record {
-      count = c.loop-count.count;
-      most = c.loop-count.invariant.few;
-      ahead = _;
-      answered = c.loop-count.invariant.answered;
-      ends = left_by_bad c.loop-count.count _ _ _ _ _ _ c.loop-count-test.true ends.0 ends.1;
-    }
-
--- what is left was cut short
-pub returns-in-Err-Cut-clause-ok : goal.returns-in-Err-Cut-clause-ok
-returns-in-Err-Cut-clause-ok g c =
-    let ends = rw c.in-Err-Cut.field-0-is at (c.in-Err-Cut.ensures.err c.loop-count.invariant.goes_on) in
-    record {
-      count = c.loop-count.count;
-      most = c.loop-count.invariant.few;
-      ahead = _;
-      answered = c.loop-count.invariant.answered;
-      ends = left_by_cut c.loop-count.count 0 _ _ _ _ _ c.loop-count-test.true ends.0 ends.1;
-    }
+    ends_after _ _ _ _ _ _ _ c.loop-count.count _ so_far c.loop-count.invariant.few
+    (bad_ahead so_far.messages c.loop-count.count _ _ _ _ _ _ so_far.on so_far.counted c.loop-count-test.true ends.0 ends.1)
+    c.in_ok-answer_bad-in-Err-Bad.ensures.ok

@@ -1,6 +1,6 @@
 use Rattle.std.proofs.Common.{◌≡◌, ◌≤◌, ◌-◌, None}
 use Rattle.kg_outside.specs.Moves.{with_front}
-use Rattle.kg_lone.specs.Answered.{Answered}
+use Rattle.kg_lone.specs.Answered.{AnsweredOn}
 use Rattle.kg_lone.specs.DryText.{local_address, most_requests}
 use Rattle.kg_lone.proofs.dry.answer_all.Given as goal
 
@@ -9,7 +9,7 @@ invariant-loop-count g l = record {
   goes_on : l.reader.error ≡ None;
   address : l.reader.address ≡ local_address;
   few : l.count ≤ most_requests;
-  answered : Answered l.router (g.T.Clock.reads l.initial.clock l.clock) (g.S.Source.left l.initial.source)
+  answered : AnsweredOn l.router (g.T.Clock.reads l.initial.clock l.clock) (g.S.Source.left l.initial.source)
       (with_front l.reader.held (g.S.Source.left l.source)) (g.K.Sink.written l.initial.sink) (g.K.Sink.written l.sink) l.count;
   kept_read : g.S.Source.faults l.source ≡ g.S.Source.faults l.initial.source;
   kept_write : g.K.Sink.faults l.sink ≡ g.K.Sink.faults l.initial.sink;

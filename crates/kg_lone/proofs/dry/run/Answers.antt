@@ -1,14 +1,27 @@
+use Rattle.std.proofs.Common.{refl}
 use Rattle.kg_lone.proofs.dry.run.Goals as goal
 
 -- the text of each end
 pub returns-in-Ok-Closed-clause-whole : goal.returns-in-Ok-Closed-clause-whole
-returns-in-Ok-Closed-clause-whole g c whole = rw c.in-Ok-Closed.field-0-is at c.in-Ok-Closed.ensures.ok
+returns-in-Ok-Closed-clause-whole g c whole bytes seen =
+    record { end = _; ending = refl; writes = (rw c.in-Ok-Closed.field-0-is at c.in-Ok-Closed.ensures.ok) bytes seen }
+
+pub returns-in-Ok-Asked-clause-whole : goal.returns-in-Ok-Asked-clause-whole
+returns-in-Ok-Asked-clause-whole g c whole bytes seen =
+    record { end = _; ending = refl; writes = (rw c.in-Ok-Asked.field-0-is at c.in-Ok-Asked.ensures.ok) bytes seen }
 
 pub returns-in-Ok-Spent-clause-whole : goal.returns-in-Ok-Spent-clause-whole
-returns-in-Ok-Spent-clause-whole g c whole = rw c.in-Ok-Spent.field-0-is at c.in-Ok-Spent.ensures.ok
+returns-in-Ok-Spent-clause-whole g c whole bytes seen =
+    record { end = _; ending = refl; writes = (rw c.in-Ok-Spent.field-0-is at c.in-Ok-Spent.ensures.ok) bytes seen }
 
 pub returns-in-Ok-Refused-clause-whole : goal.returns-in-Ok-Refused-clause-whole
-returns-in-Ok-Refused-clause-whole g c whole = rw c.in-Ok-Refused.field-0-is at c.in-Ok-Refused.ensures.ok
+returns-in-Ok-Refused-clause-whole g c whole bytes seen =
+    record { end = _; ending = refl; writes = (rw c.in-Ok-Refused.field-0-is at c.in-Ok-Refused.ensures.ok) bytes seen }
 
-pub returns-in-Ok-Left-clause-whole : goal.returns-in-Ok-Left-clause-whole
-returns-in-Ok-Left-clause-whole g c whole = rw c.in-Ok-Left.field-0-is at c.in-Ok-Left.ensures.ok
+pub returns-in-Ok-Bad-clause-whole : goal.returns-in-Ok-Bad-clause-whole
+returns-in-Ok-Bad-clause-whole g c whole bytes seen =
+    record { end = _; ending = refl; writes = (rw c.in-Ok-Bad.field-0-is at c.in-Ok-Bad.ensures.ok) bytes seen }
+
+pub returns-in-Ok-Cut-clause-whole : goal.returns-in-Ok-Cut-clause-whole
+returns-in-Ok-Cut-clause-whole g c whole bytes seen =
+    record { end = _; ending = refl; writes = (rw c.in-Ok-Cut.field-0-is at c.in-Ok-Cut.ensures.ok) bytes seen }

@@ -1,7 +1,7 @@
 use Rattle.std.proofs.Common.{◌≡◌, ◌-◌, ◌≤◌, length}
 use Rattle.std.specs.List.{position_or_len}
 use Rattle.kg_outside.specs.Moves.{with_front}
-use Rattle.kg_lone.specs.Reading.{is_line_feed}
+use Rattle.kg_lone.specs.FirstLine.{is_line_feed}
 use Rattle.kg_lone.proofs.line.first_line.Given as goal
 
 abbrev pub invariant-loop-line : goal.invariant-loop-line

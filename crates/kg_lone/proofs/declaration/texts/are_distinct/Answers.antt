@@ -1,4 +1,4 @@
-use Rattle.std.proofs.Common.{◌≡◌, ◌∙◌, ap, sym, cond, true, get_or}
+use Rattle.std.proofs.Common.{◌∙◌, ap, sym, cond, true, get_or}
 use Rattle.std.specs.Str.{bytes_eq}
 use Rattle.kg_lone.proofs.DeclaredTexts.{among_one_more, new_text, no_text, not_false, not_true, repeated_text}
 use Rattle.kg_lone.proofs.declaration.texts.are_distinct.Goals as goal

@@ -1,5 +1,0 @@
-use Rattle.kg_lone.proofs.RouteOrder.{one_is_before}
-use Rattle.kg_lone.proofs.router.order.route_order_is_total.Goals as goal
-
-pub returns : goal.returns
-returns c = one_is_before
