@@ -31,3 +31,6 @@ pub use crate::rows::Rows;
 pub use crate::service::Service;
 pub use crate::table::Table;
 pub use crate::value::Value;
+
+#[cfg(test)]
+mod tests;

@@ -3,6 +3,7 @@ mod Differs
 mod Exact
 mod GenerationLemmas
 mod GroupLemmas
+mod HistoryLemmas
 mod SameLemmas
 mod Searches
 mod SetLemmas

@@ -8,7 +8,9 @@ mod admit;
 mod candidates;
 mod change;
 mod command;
+mod find;
 mod generations;
+mod laws;
 mod same;
 mod select;
 mod touched;
@@ -18,6 +20,11 @@ mod watch;
 pub use crate::admit::allowed;
 pub use crate::change::apply;
 pub use crate::command::Command;
+pub use crate::find::selected;
+pub use crate::laws::last_command_changes_what_differs;
 pub use crate::select::{Parent, Select};
 pub use crate::touched::Touched;
 pub use crate::value::value_of;
+
+#[cfg(test)]
+mod tests;
