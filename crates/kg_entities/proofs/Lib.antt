@@ -1,2 +1,3 @@
 mod IdLemmas
 mod TableLemmas
+mod TextIndexLemmas

@@ -11,7 +11,7 @@ use Rattle.indexmap.specs.IndexMap.{insert_entry}
 use Rattle.kg_entities.specs.Tables.{replaced}
 
 -- equality of numbers, asked the other way round
-flipped : (a b : ℕ) → nat_eq a b ≡ nat_eq b a
+pub flipped : (a b : ℕ) → nat_eq a b ≡ nat_eq b a
 flipped a b =
     ⊎_elim (λ yes. subst (λ c. nat_eq a c ≡ nat_eq c a) yes.1 refl)
     (λ no. no.0 ∙ sym (⊎_elim (λ yes. absurd (no.1 (sym yes.1))) (λ also. also.0) (eqb_tells b a))) (eqb_tells a b)

@@ -8,6 +8,7 @@ pub mod RowChanges
 pub mod RowLists
 pub mod StoredPassword
 pub mod Tables
+pub mod TextIndexes
 pub mod ValidRows
 pub mod Values
 pub mod Words

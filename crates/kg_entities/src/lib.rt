@@ -14,6 +14,7 @@ mod row;
 mod rows;
 mod service;
 mod table;
+mod text_index;
 mod value;
 
 pub use crate::config::{
