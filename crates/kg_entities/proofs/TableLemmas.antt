@@ -1,12 +1,12 @@
 -- The entries of a table and its rows: to look up, to add, to replace and to take out is the same in
 -- both.
-use Rattle.std.proofs.Common.{◌≡◌, ℕ, Bool, true, false, cond, not, ◌||◌, ◌==◌, nat_eq, List, [], ◌∷◌, ◌++◌, Option, Some, None, is_some, filter, find, All, refl, sym, ap, subst, ◌∙◌, inl, inr, ⊎_elim, true≢false}
+use Rattle.std.proofs.Common.{◌≡◌, ℕ, Bool, true, false, cond, not, ◌||◌, ◌==◌, nat_eq, List, [], ◌∷◌, ◌++◌, Option, Some, None, is_some, map, filter, find, All, refl, sym, ap, ap₂, subst, ◌∙◌, inl, inr, ⊎_elim, true≢false}
 use Rattle.std.proofs.lemmas.Bool.{eqb-true}
 use Rattle.std.proofs.lemmas.Bool.Decides.{eqb_tells}
 use Rattle.std.proofs.lemmas.List.Elements.{All-head, All-tail, All-cons, All-nil, All-push, All-filter}
 use Rattle.std.proofs.lemmas.List.{map-append}
 use Rattle.std.specs.List.{list_any}
-use Rattle.std.specs.Map.{lookup, values_of}
+use Rattle.std.specs.Map.{keys_of, lookup, values_of}
 use Rattle.indexmap.specs.IndexMap.{insert_entry}
 use Rattle.kg_entities.specs.Tables.{replaced}
 
@@ -20,6 +20,11 @@ module _ {T : Type 0} (number : T → ℕ) where
   -- an entry's key is the id of its row
   abbrev pub Tied : ℕ × T → Type 0
   Tied e = e.0 ≡ number e.1
+
+  -- the keys are the ids of the rows
+  pub keys_tied : (es : List (ℕ × T)) → All Tied es → keys_of es ≡ map number (values_of es)
+  keys_tied [] tied = refl
+  keys_tied (e ∷ es) tied = ap₂ (λ id ids. id ∷ ids) (All-head Tied e es tied) (keys_tied es (All-tail Tied e es tied))
 
   -- the test of an entry's key is that of its row
   same_test : (id : ℕ) (e : ℕ × T) → Tied e → nat_eq id e.0 ≡ nat_eq (number e.1) id

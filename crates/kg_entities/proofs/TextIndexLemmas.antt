@@ -88,6 +88,15 @@ forgotten_names (Some (Only holder)) id a true is =
       | false ↦ λ same. same
     ]) is
 
+-- the same change of the same text
+pub noted_alike : (text : List ℕ) {set other : Option (List ℕ)} {id n : ℕ} {holder h : Option Holder} → set ≡ other → id ≡ n → holder ≡ h → noted (is_text text set) id holder ≡ noted (is_text text other) n h
+noted_alike text {set} {other} {id} {n} {holder} {h} sets ids holders =
+    ap (λ s. noted (is_text text s) id holder) sets ∙ ap (λ k. noted (is_text text other) k holder) ids ∙ ap (noted (is_text text other) n) holders
+
+pub forgotten_alike : (text : List ℕ) {set other : Option (List ℕ)} {id n : ℕ} {holder h : Option Holder} → set ≡ other → id ≡ n → holder ≡ h → forgotten (is_text text set) id holder ≡ forgotten (is_text text other) n h
+forgotten_alike text {set} {other} {id} {n} {holder} {h} sets ids holders =
+    ap (λ s. forgotten (is_text text s) id holder) sets ∙ ap (λ k. forgotten (is_text text other) k holder) ids ∙ ap (forgotten (is_text text other) n) holders
+
 -- ---- the rows
 
 module _ {T : Type 0} (number : T → ℕ) where

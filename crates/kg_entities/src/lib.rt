@@ -8,6 +8,7 @@ mod consumer;
 mod entity;
 mod id;
 mod key;
+mod named_table;
 mod plugin;
 mod route;
 mod row;

@@ -1,8 +1,8 @@
 //! The rows of one kind, with an index by id.
 
-ghost use Rattle.std.specs.Prelude.{◌≡◌, [], ◌∷◌, ◌++◌, ◌==◌, false, OnOk, OnErr, find, filter, length, not};
+ghost use Rattle.std.specs.Prelude.{◌≡◌, [], ◌∷◌, ◌++◌, ◌==◌, false, OnOk, OnErr, find, filter, length, map, nat_eq, not};
 ghost use Rattle.std.specs.Option.{option_copied};
-ghost use Rattle.std.specs.List.{list_any};
+ghost use Rattle.std.specs.List.{list_any, IsDistinct};
 ghost use Rattle.kg_entities.specs.RowChanges.{names_row};
 ghost use Rattle.kg_entities.specs.Tables.{replaced};
 
@@ -55,6 +55,13 @@ impl<T: Row> Table<T> {
         ensures { result ≡ length self.now }
     {
         self.rows.len()
+    }
+
+    /// No two rows have the same id.
+    pub(crate) fn ids_differ(&self)
+        ensures { IsDistinct nat_eq (map T.number self.now) }
+    {
+        let _len = self.rows.len();
     }
 
     /// The first row with this id.

@@ -81,6 +81,15 @@ impl TextIndex {
         }
     }
 
+    /// The row has the new text in place of the old one.
+    pub(crate) fn exchange(&mut self, old: Option<&Text>, new: Option<Text>, id: Id)
+        requires { 0 < spare self.old.holders }
+        ensures { (text : List ℕ) → holder_of self.new text ≡ noted (is_text text new) id (forgotten (is_text text (option_copied old.entry)) id (holder_of self.old text)) }
+    {
+        self.forget(old, id);
+        self.note(new, id);
+    }
+
     /// Drops the texts whose one holder isn't there.
     pub(crate) fn keep_held<T: Row>(&mut self, rows: &Table<T>)
         ensures { (text : List ℕ) → holder_of self.new text ≡ kept (is_kept T.number rows.now) (holder_of self.old text) }
