@@ -149,6 +149,32 @@ module _ {T : Type 0} (number : T → ℕ) where
         | false ↦ λ _. ap (λ rest. test (number row) || rest) (ids_replaced test new rows)
       ]) refl
 
+  -- without the rows of one id, that id is gone and the others are there
+  none_left : (id : ℕ) (rows : List T) → list_any (has_id id) (filter (λ row. not (has_id id row)) rows) ≡ false
+  none_left id [] = refl
+  none_left id (row ∷ rows) =
+      (elim (has_id id row) as (λ b. has_id id row ≡ b → list_any (has_id id) (cond {A = List T} (not b) (row ∷ filter (λ r. not (has_id id r)) rows) (filter (λ r. not (has_id id r)) rows)) ≡ false) [
+        | true ↦ λ _. none_left id rows
+        | false ↦ λ no. ap (λ b. b || list_any (has_id id) (filter (λ r. not (has_id id r)) rows)) no ∙ none_left id rows
+      ]) refl
+
+  others_left : (id a : ℕ) → nat_eq id a ≡ false → (rows : List T) → list_any (has_id a) (filter (λ row. not (has_id id row)) rows) ≡ list_any (has_id a) rows
+  others_left id a differ [] = refl
+  others_left id a differ (row ∷ rows) =
+      (elim (has_id id row) as (λ b. has_id id row ≡ b → list_any (has_id a) (cond {A = List T} (not b) (row ∷ filter (λ r. not (has_id id r)) rows) (filter (λ r. not (has_id id r)) rows)) ≡ (has_id a row || list_any (has_id a) rows)) [
+        | true ↦ λ yes. others_left id a differ rows ∙ ap (λ b. b || list_any (has_id a) rows) (sym (ap (λ n. nat_eq n a) (eqb-true (number row) id yes) ∙ differ))
+        | false ↦ λ _. ap (λ rest. has_id a row || rest) (others_left id a differ rows)
+      ]) refl
+
+  -- where no row has the id, all are left
+  pub all_left : (id : ℕ) (rows : List T) → list_any (has_id id) rows ≡ false → rows ≡ filter (λ row. not (has_id id row)) rows
+  all_left id [] none = refl
+  all_left id (row ∷ rows) none =
+      (elim (has_id id row) as (λ b. (b || list_any (has_id id) rows) ≡ false → row ∷ rows ≡ cond {A = List T} (not b) (row ∷ filter (λ r. not (has_id id r)) rows) (filter (λ r. not (has_id id r)) rows)) [
+        | true ↦ λ yes. absurd (true≢false yes)
+        | false ↦ λ rest. ap (λ more. row ∷ more) (all_left id rows rest)
+      ]) none
+
   -- the row that is found passes what all pass, and has the id
   found_passes : (P : T → Type 0) (id : ℕ) (old : T) (rows : List T) → All P rows → find (has_id id) rows ≡ Some old → P old × (has_id id old ≡ true) × (list_any (has_id id) rows ≡ true)
   found_passes P id old [] all is = absurd (true≢false (sym (ap is_some is)))
@@ -274,6 +300,32 @@ module _ {T : Type 0} (number : T → ℕ) (text_of : T → Option (List ℕ)) w
             | true ↦ λ _. tells
             | false ↦ λ none. others_of_none number (λ row. is_text text (text_of row) ≡ nat_eq (number row) a) (λ row. is_text text (text_of row) ≡ false) a (λ row same other. same ∙ other) left tells none
           ]) refl
+
+  -- the row with an id goes
+  pub index_removed : (before now : List ℕ → Option Holder) (old : T) (id : ℕ) (rows left : List T) → left ≡ filter (λ row. not (has_id number id row)) rows
+      → ((text : List ℕ) → now text ≡ forgotten (is_text text (text_of old)) id (before text)) → find (has_id number id) rows ≡ Some old
+      → IsIndex number text_of before rows → IsIndex number text_of now left
+  index_removed before now old id rows left less says found index =
+      index_filter before now (λ row. not (has_id number id row)) rows left less
+        (λ text. says text ∙ by text (before text) refl (is_text text (text_of old))
+          (let at = found_passes number (Says before text) id old rows (index.tells text) found in
+          subst (λ n. Tells (before text) n (is_text text (text_of old))) (eqb-true (number old) id at.1) at.0))
+        index
+    where
+      there : (a : ℕ) → list_any (has_id number a) left ≡ list_any (has_id number a) (filter (λ row. not (has_id number id row)) rows)
+      there a = ap (list_any (has_id number a)) less
+
+      by : (text : List ℕ) (h : Option Holder) → before text ≡ h → (b : Bool) → Tells h id b → forgotten b id h ≡ kept (is_kept number left) h
+      by text None is true tells = refl
+      by text None is false tells = refl
+      by text (Some Several) is true tells = refl
+      by text (Some Several) is false tells = refl
+      by text (Some (Only a)) is true tells =
+          ap (λ b. cond {A = Option Holder} b None (Some (Only a))) (sym tells)
+          ∙ sym (ap (λ b. cond {A = Option Holder} b (Some (Only a)) None)
+            (there a ∙ subst (λ k. list_any (has_id number k) (filter (λ row. not (has_id number id row)) rows) ≡ false) (eqb-true id a (sym tells)) (none_left number id rows)))
+      by text (Some (Only a)) is false tells =
+          sym (ap (λ b. cond {A = Option Holder} b (Some (Only a)) None) (there a ∙ others_left number id a (sym tells) rows ∙ index.there text a is))
 
   -- ---- what is found
 

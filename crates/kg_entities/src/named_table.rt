@@ -147,9 +147,12 @@ impl<T: Named> NamedTable<T> {
     pub(crate) fn remove(&mut self, id: Id)
         ensures { self.new ≡ filter (λ row. not (T.number row == id)) self.old }
     {
+        let Some(old) = self.table.get(id) else {
+            return;
+        };
+        self.names.forget(old.name(), id);
+        self.aliases.forget(old.alias(), id);
         self.table.remove(id);
-        self.names.keep_held(&self.table);
-        self.aliases.keep_held(&self.table);
     }
 }
 
