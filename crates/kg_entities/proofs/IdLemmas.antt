@@ -1,9 +1,9 @@
 -- The number of 16 bytes, and what a printed id is read as.
-use Rattle.std.proofs.Common.{◌≡◌, ℕ, zero, suc, ◌+◌, ◌*◌, ◌/◌, ◌%◌, ◌^◌, ◌<◌, List, [], ◌∷◌, Option, Some, None, option_map, All, arith, sym, ap, ◌∙◌, inl, refl, length}
+use Rattle.std.proofs.Common.{◌≡◌, ℕ, zero, suc, ◌+◌, ◌*◌, ◌/◌, ◌%◌, ◌^◌, ◌<◌, List, Option, Some, None, option_map, All, arith, sym, ap, ◌∙◌, inl, refl}
 use Rattle.std.proofs.Math.Nat.{add-mul, mul_assoc, mul_comm, div-div-eq-div-mul}
 use Rattle.std.proofs.lemmas.List.Elements.{All-cons, All-nil}
 use Rattle.std.specs.Int.{byte_at, bytes_high_first, from_be_bytes, to_be_bytes, w128}
-use Rattle.uuid.specs.Text.{lower, parsed}
+use Rattle.uuid.specs.Text.{lower}
 use Rattle.uuid.proofs.RoundTrips.{parses_hyphenated}
 use Rattle.kg_entities.specs.Ids.{id_of, printed}
 

@@ -1,8 +1,7 @@
 -- Single changes of the lists of rows, and what is asked of them by id.
-use Rattle.std.specs.Prelude.{ℕ, Bool, false, not, ◌||◌, ◌==◌, List, [], ◌∷◌, ◌++◌, filter, length, Option}
+use Rattle.std.specs.Prelude.{ℕ, Bool, false, not, ◌==◌, [], ◌∷◌, ◌++◌, filter, length, Option}
 use Rattle.std.specs.List.{list_any}
 use Rattle.std.specs.Option.{option_map_or}
-use Rattle.kg_entities.specs.Entities.{kind_of, id_of_row}
 use Rattle.kg_entities.specs.RowLists.{RowLists}
 use Rattle.kg_entities.specs.Tables.{replaced}
 use Rattle.kg_entities.specs.declared.entity.Entity.{Entity}

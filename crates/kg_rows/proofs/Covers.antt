@@ -1,11 +1,11 @@
 -- The candidates of a command cover what it changes: a key that is none of them keeps its value.
-use Rattle.std.proofs.Common.{◌≡◌, ℕ, Bool, true, false, cond, not, ◌||◌, ◌==◌, List, [], ◌∷◌, ◌++◌, Option, None, Some, filter, find, map, refl, sym, ap, ◌∙◌, ap₂, unwrap_or, option_and_then, if◌then◌else◌}
-use Rattle.std.proofs.lemmas.Bool.{eqb-true, eq-eqb}
+use Rattle.std.proofs.Common.{◌≡◌, ℕ, Bool, true, false, cond, ◌||◌, ◌==◌, List, [], ◌∷◌, ◌++◌, Option, None, Some, filter, find, map, refl, sym, ap, ◌∙◌, ap₂, unwrap_or, option_and_then, if◌then◌else◌}
+use Rattle.std.proofs.lemmas.Bool.{eqb-true}
 use Rattle.std.specs.List.{list_any, flat_map}
-use Rattle.std.specs.Option.{option_or, option_map_or}
+use Rattle.std.specs.Option.{option_or}
 use Rattle.std.specs.Str.{bytes_eq}
 use Rattle.kg_entities.specs.Ids.{id_of, printed}
-use Rattle.kg_entities.specs.Lookups.{is_text, printed_id_of, named, consumer_with_username, cred_with_key, cred_with_username}
+use Rattle.kg_entities.specs.Lookups.{is_text, printed_id_of, named, consumer_with_username}
 use Rattle.kg_entities.specs.RowLists.{RowLists}
 use Rattle.kg_entities.specs.declared.consumer.AclRow.{AclRow}
 use Rattle.kg_entities.specs.declared.consumer.BasicCred.{BasicCred}
@@ -17,9 +17,9 @@ use Rattle.kg_entities.specs.declared.key.Key.{Key}
 use Rattle.kg_entities.specs.declared.key.Key.TheVariants.{Cred, Basic, Consumer, Named, Acls}
 use Rattle.kg_entities.specs.declared.value.Value.TheVariants as value
 use Rattle.kg_rows.specs.ByteOrder.{in_byte_order}
-use Rattle.kg_rows.specs.Candidates.{candidates, keys_of_id, keys_below, keys_of_credentials, consumer_keys, username_keys, cred_keys, basic_keys, acl_keys}
+use Rattle.kg_rows.specs.Candidates.{candidates, keys_of_id, keys_of_credentials, consumer_keys, username_keys, cred_keys, basic_keys, acl_keys}
 use Rattle.kg_rows.specs.Rows.{changed}
-use Rattle.kg_rows.specs.Values.{value_of, groups_of}
+use Rattle.kg_rows.specs.Values.{value_of}
 use Rattle.kg_rows.specs.declared.command.Command.{Command}
 use Rattle.kg_rows.specs.declared.command.Command.TheVariants.{Insert, Update, Delete}
 use Rattle.kg_rows.proofs.Searches.{or_left, or_right, filter_past_push, filter_past_filter, filter_past_replaced, find_by_filter, none_of_all, none_of_front, none_of_back}

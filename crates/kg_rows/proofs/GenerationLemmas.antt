@@ -3,13 +3,11 @@ use Rattle.std.proofs.Common.{◌≡◌, ◌≢◌, ◌↔◌, ℕ, ◌+◌, ◌
 use Rattle.std.proofs.lemmas.Option.{same_Some}
 use Rattle.std.specs.List.{list_any}
 use Rattle.std.specs.Option.{is_some}
-use Rattle.kg_entities.specs.RowChanges.{names_row}
 use Rattle.kg_entities.specs.RowLists.{RowLists}
 use Rattle.kg_entities.specs.Tables.{replaced}
 use Rattle.kg_entities.specs.Values.{Generation, RouterRows, PluginRows}
-use Rattle.kg_entities.specs.declared.entity.Kind.{Kind}
 use Rattle.kg_entities.specs.declared.entity.Kind.TheVariants as kind
-use Rattle.kg_entities.specs.declared.key.GenKey.TheVariants.{Router, Plugins}
+use Rattle.kg_entities.specs.declared.key.GenKey.TheVariants.{Router}
 use Rattle.kg_entities.specs.declared.plugin.PluginRow.{PluginRow}
 use Rattle.kg_entities.specs.declared.route.Route.{Route}
 use Rattle.kg_entities.specs.declared.service.Service.{Service}

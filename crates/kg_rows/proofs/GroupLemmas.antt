@@ -12,7 +12,7 @@ use Rattle.kg_entities.specs.RowLists.{RowLists}
 use Rattle.kg_entities.specs.declared.consumer.AclRow.{AclRow}
 use Rattle.kg_entities.specs.declared.key.Key.{Key}
 use Rattle.kg_entities.specs.declared.key.Key.TheVariants.{Cred, Basic, Consumer, Named, Acls}
-use Rattle.kg_rows.specs.ByteOrder.{in_byte_order, IsInByteOrder}
+use Rattle.kg_rows.specs.ByteOrder.{IsInByteOrder}
 use Rattle.kg_rows.specs.Values.{groups_of, value_of}
 use Rattle.kg_rows.specs.Watching.{IsOrderly, watched_at}
 use Rattle.kg_rows.specs.declared.watch.Watched.{Watched}

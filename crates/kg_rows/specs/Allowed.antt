@@ -8,7 +8,6 @@ use Rattle.kg_entities.specs.Lookups.{is_text}
 use Rattle.kg_entities.specs.RowChanges.{has_row, count_of}
 use Rattle.kg_entities.specs.RowLists.{RowLists}
 use Rattle.kg_entities.specs.ValidRows.{same_membership, same_place}
-use Rattle.kg_entities.specs.declared.consumer.Consumer.{Consumer}
 use Rattle.kg_entities.specs.declared.entity.Entity.{Entity}
 use Rattle.kg_entities.specs.declared.entity.Entity.TheVariants as row
 use Rattle.kg_entities.specs.declared.entity.Kind.{Kind}

@@ -1,5 +1,5 @@
 -- Keys whose values a command may change: more than those that it does, and with repeats.
-use Rattle.std.specs.Prelude.{ℕ, Bool, ◌==◌, List, [], ◌∷◌, ◌++◌, filter, Option, Some, None}
+use Rattle.std.specs.Prelude.{ℕ, ◌==◌, List, [], ◌∷◌, ◌++◌, filter, Option, Some, None}
 use Rattle.std.specs.List.{flat_map}
 use Rattle.kg_entities.specs.Entities.{kind_of, id_of_row}
 use Rattle.kg_entities.specs.Ids.{printed}

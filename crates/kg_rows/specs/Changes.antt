@@ -1,5 +1,5 @@
 -- Which keys and generations a change of the rows changes.
-use Rattle.std.specs.Prelude.{◌≡◌, ◌≢◌, ◌↔◌, ℕ, ◌-◌, List, take, Contains}
+use Rattle.std.specs.Prelude.{◌≢◌, ◌↔◌, ℕ, ◌-◌, List, take, Contains}
 use Rattle.std.specs.List.{AllPairs}
 use Rattle.kg_entities.specs.RowLists.{RowLists}
 use Rattle.kg_entities.specs.declared.key.GenKey.{GenKey}

@@ -1,5 +1,5 @@
 -- Keys with their values before a change, and which of them differ after it.
-use Rattle.std.specs.Prelude.{◌≡◌, ◌≢◌, ◌⊎◌, List, [], ◌∷◌, ◌++◌, map, All, Contains, ⊤}
+use Rattle.std.specs.Prelude.{◌≡◌, ◌≢◌, ◌⊎◌, List, [], ◌∷◌, ◌++◌, All, Contains, ⊤}
 use Rattle.std.specs.List.{AllPairs}
 use Rattle.kg_entities.specs.RowLists.{RowLists}
 use Rattle.kg_entities.specs.declared.key.Key.{Key}

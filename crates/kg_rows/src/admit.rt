@@ -103,108 +103,52 @@ fn is_unique(row: &Entity, rows: &Rows) -> bool
     ensures { result ≡ is_unique row.now rows.now }
 {
     match row {
-        Entity::Service(service) => is_service_name_free(service, rows.services().as_slice()),
-        Entity::Route(route) => is_route_name_free(route, rows.routes().as_slice()),
+        Entity::Service(service) => is_service_name_free(service, rows),
+        Entity::Route(route) => is_route_name_free(route, rows),
         Entity::Consumer(consumer) => {
-            is_username_free(consumer, rows.consumers().as_slice())
-                && is_custom_id_free(consumer, rows.consumers().as_slice())
+            is_username_free(consumer, rows) && is_custom_id_free(consumer, rows)
         }
-        Entity::KeyCred(cred) => !is_key_taken(cred, rows.key_creds().as_slice()),
-        Entity::BasicCred(cred) => !is_login_taken(cred, rows.basic_creds().as_slice()),
+        Entity::KeyCred(cred) => !rows.is_key_taken(cred.id, &cred.key),
+        Entity::BasicCred(cred) => !rows.is_login_taken(cred.id, &cred.username),
         Entity::Acl(membership) => !is_membership_taken(membership, rows.acls().as_slice()),
         Entity::Plugin(plugin) => !is_place_taken(plugin, rows.plugins().as_slice()),
     }
 }
 
-fn is_text(set: &Option<Text>, text: &Text) -> bool
-    ensures { result ≡ is_text text.now set.now }
-{
-    match set {
-        Some(other) => other == text,
-        None => false,
-    }
-}
-
-fn is_service_name_free(service: &Service, services: &[Service]) -> bool
-    ensures { result ≡ is_free (λ other. other.id) (λ other. other.name) service.now.id service.now.name services.now }
+fn is_service_name_free(service: &Service, rows: &Rows) -> bool
+    ensures { result ≡ is_free (λ other. other.id) (λ other. other.name) service.now.id service.now.name rows.now.services }
 {
     match &service.name {
-        Some(name) => !has_service_name(services, service.id, name),
+        Some(text) => !rows.is_service_name_taken(service.id, text),
         None => true,
     }
 }
 
-fn has_service_name(services: &[Service], id: Id, name: &Text) -> bool
-    ensures { result ≡ is_taken (λ other. other.id) id (λ other. is_text name.now other.name) services.now }
-{
-    services
-        .iter()
-        .any(|other| other.id != id && is_text(&other.name, name))
-}
-
-fn is_route_name_free(route: &Route, routes: &[Route]) -> bool
-    ensures { result ≡ is_free (λ other. other.id) (λ other. other.name) route.now.id route.now.name routes.now }
+fn is_route_name_free(route: &Route, rows: &Rows) -> bool
+    ensures { result ≡ is_free (λ other. other.id) (λ other. other.name) route.now.id route.now.name rows.now.routes }
 {
     match &route.name {
-        Some(name) => !has_route_name(routes, route.id, name),
+        Some(text) => !rows.is_route_name_taken(route.id, text),
         None => true,
     }
 }
 
-fn has_route_name(routes: &[Route], id: Id, name: &Text) -> bool
-    ensures { result ≡ is_taken (λ other. other.id) id (λ other. is_text name.now other.name) routes.now }
-{
-    routes
-        .iter()
-        .any(|other| other.id != id && is_text(&other.name, name))
-}
-
-fn is_username_free(consumer: &Consumer, consumers: &[Consumer]) -> bool
-    ensures { result ≡ is_free (λ other. other.id) (λ other. other.username) consumer.now.id consumer.now.username consumers.now }
+fn is_username_free(consumer: &Consumer, rows: &Rows) -> bool
+    ensures { result ≡ is_free (λ other. other.id) (λ other. other.username) consumer.now.id consumer.now.username rows.now.consumers }
 {
     match &consumer.username {
-        Some(name) => !has_username(consumers, consumer.id, name),
+        Some(text) => !rows.is_username_taken(consumer.id, text),
         None => true,
     }
 }
 
-fn has_username(consumers: &[Consumer], id: Id, name: &Text) -> bool
-    ensures { result ≡ is_taken (λ other. other.id) id (λ other. is_text name.now other.username) consumers.now }
-{
-    consumers
-        .iter()
-        .any(|other| other.id != id && is_text(&other.username, name))
-}
-
-fn is_custom_id_free(consumer: &Consumer, consumers: &[Consumer]) -> bool
-    ensures { result ≡ is_free (λ other. other.id) (λ other. other.custom_id) consumer.now.id consumer.now.custom_id consumers.now }
+fn is_custom_id_free(consumer: &Consumer, rows: &Rows) -> bool
+    ensures { result ≡ is_free (λ other. other.id) (λ other. other.custom_id) consumer.now.id consumer.now.custom_id rows.now.consumers }
 {
     match &consumer.custom_id {
-        Some(text) => !has_custom_id(consumers, consumer.id, text),
+        Some(text) => !rows.is_custom_id_taken(consumer.id, text),
         None => true,
     }
-}
-
-fn has_custom_id(consumers: &[Consumer], id: Id, text: &Text) -> bool
-    ensures { result ≡ is_taken (λ other. other.id) id (λ other. is_text text.now other.custom_id) consumers.now }
-{
-    consumers
-        .iter()
-        .any(|other| other.id != id && is_text(&other.custom_id, text))
-}
-
-fn is_key_taken(cred: &KeyCred, creds: &[KeyCred]) -> bool
-    ensures { result ≡ is_taken (λ other. other.id) cred.now.id (λ other. bytes_eq other.key cred.now.key) creds.now }
-{
-    creds
-        .iter()
-        .any(|other| other.id != cred.id && other.key == cred.key)
-}
-
-fn is_login_taken(cred: &BasicCred, creds: &[BasicCred]) -> bool
-    ensures { result ≡ is_taken (λ other. other.id) cred.now.id (λ other. bytes_eq other.username cred.now.username) creds.now }
-{
-    creds.iter().any(|other| other.id != cred.id && other.username == cred.username)
 }
 
 fn is_membership_taken(membership: &AclRow, acls: &[AclRow]) -> bool

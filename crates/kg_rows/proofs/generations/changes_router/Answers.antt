@@ -1,5 +1,5 @@
-use Rattle.std.proofs.Common.{◌≡◌, ◌≢◌, ◌↔◌, ◌==◌, IsTrue, sym, ap, subst, ◌∙◌}
-use Rattle.kg_entities.specs.declared.key.GenKey.TheVariants.{Router, Plugins}
+use Rattle.std.proofs.Common.{◌≢◌, ◌↔◌, IsTrue, sym, ap, subst, ◌∙◌}
+use Rattle.kg_entities.specs.declared.key.GenKey.TheVariants.{Router}
 use Rattle.kg_rows.specs.Rows.{changed, deleted}
 use Rattle.kg_rows.specs.Values.{generation_of}
 use Rattle.kg_rows.proofs.GenerationLemmas.{services_gone, routes_gone}

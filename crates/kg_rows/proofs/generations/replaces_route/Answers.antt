@@ -1,4 +1,4 @@
-use Rattle.std.proofs.Common.{◌≡◌, ◌==◌, find, sym, ap, ◌∙◌}
+use Rattle.std.proofs.Common.{◌==◌, find, sym, ap, ◌∙◌}
 use Rattle.std.specs.Option.{option_copied}
 use Rattle.kg_rows.proofs.GenerationLemmas.{replaced_changes, none_replaced}
 use Rattle.kg_rows.proofs.generations.replaces_route.Goals as goal

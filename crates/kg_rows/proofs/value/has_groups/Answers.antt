@@ -1,4 +1,4 @@
-use Rattle.std.proofs.Common.{◌≡◌, sym, ◌∙◌, true≢false}
+use Rattle.std.proofs.Common.{sym, ◌∙◌, true≢false}
 use Rattle.kg_rows.proofs.GroupLemmas.{groups_same, groups_among, groups_each}
 use Rattle.kg_rows.proofs.value.has_groups.Goals as goal
 

@@ -1,4 +1,4 @@
-use Rattle.std.proofs.Common.{◌≡◌, ◌++◌, sym, ap, ◌∙◌, append-nil}
+use Rattle.std.proofs.Common.{◌++◌, sym, ap, ◌∙◌, append-nil}
 use Rattle.kg_rows.proofs.value.listed.Goals as goal
 
 -- nothing is left

@@ -1,4 +1,4 @@
-use Rattle.std.proofs.Common.{◌≡◌, [], ◌∷◌, ◌++◌, true, not, nat_eq, find, filter, All, is_some, sym, ap, subst, ◌∙◌, rules}
+use Rattle.std.proofs.Common.{nat_eq, is_some, ap, ◌∙◌}
 use Rattle.std.specs.List.{list_any}
 use Rattle.std.specs.Map.{values_of}
 use Rattle.kg_entities.proofs.TableLemmas.{found_tied, is_some-find}

@@ -1,4 +1,4 @@
-use Rattle.std.proofs.Common.{◌≡◌, [], ◌∷◌, ◌++◌, true, not, nat_eq, find, filter, All, is_some, sym, ap, subst, ◌∙◌, rules}
+use Rattle.std.proofs.Common.{nat_eq, find, ap, ◌∙◌}
 use Rattle.kg_entities.proofs.TableLemmas.{found_tied}
 use Rattle.kg_entities.proofs.table.Table.get.Goals as goal
 
