@@ -2,16 +2,11 @@
 
 ghost use Rattle.std.specs.Prelude.{◌≡◌, ◌==◌, ◌&&◌, not};
 ghost use Rattle.std.specs.List.{list_any};
-ghost use Rattle.std.specs.Str.{bytes_eq};
-ghost use Rattle.kg_entities.specs.Lookups.{is_text};
 ghost use Rattle.kg_entities.specs.ValidRows.{same_membership, same_place};
 ghost use Rattle.kg_rows.specs.Allowed.{is_taken, is_free, has_if_set, has_scope, has_named_rows, is_unique, is_unused, is_consistent, has_room, is_allowed};
 
 use crate::command::Command;
-use kg_entities::{
-    AclRow, BasicCred, Consumer, Entity, Id, KeyCred, Kind, PluginRow, Route, Rows, Scope, Service,
-};
-use kg_text::Text;
+use kg_entities::{AclRow, Consumer, Entity, Id, Kind, PluginRow, Route, Rows, Scope, Service};
 
 /// Whether the command is allowed at these rows: an inserted row's id is new and its kind has fewer
 /// rows than the limit; an updated or deleted row is there; the rows that a row names are there; what
