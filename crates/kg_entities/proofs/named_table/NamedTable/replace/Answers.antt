@@ -15,7 +15,7 @@ returns-in_default-clause-ok g c =
     let none : list_any test rows ≡ false =
       sym (is_some-find g.T.Row.number test rows)
       ∙ ap (λ id. is_some (find (has_id g.T.Row.number id) rows)) (sym c.id.ensures)
-      ∙ ap is_some (sym c.get.ensures)
+      ∙ ap is_some (sym c.get.ensures.first)
       ∙ ap (λ found. is_some (option_copied found)) c.in_default.is in
     not_replaced g.T.Row.number row test rows none ∙ ap (replaced test row) c.self.view_is
 
@@ -27,7 +27,7 @@ invariant_of-self-2 g c =
     let old = c.in-Some.old.now in
     let rows = c.self.inside.table in
     let found : find (has_id number (number row)) rows ≡ Some old =
-      ap (λ id. find (has_id number id) rows) (sym c.id.ensures) ∙ sym c.get.ensures ∙ ap option_copied c.in-Some.is in
+      ap (λ id. find (has_id number id) rows) (sym c.id.ensures) ∙ sym c.get.ensures.first ∙ ap option_copied c.in-Some.is in
     (subst (IsIndex number g.T.Named.name (holder_of c.exchange.new.self)) (sym c.replace.ensures)
       (index_replaced number g.T.Named.name (holder_of c.self.inside.names) (holder_of c.exchange.new.self) old row rows
         (λ text. c.exchange.ensures text ∙ noted_alike text (c.in_ok-name.ensures ∙ c.name.ensures) c.id-2.ensures

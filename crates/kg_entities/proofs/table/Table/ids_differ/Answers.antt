@@ -6,4 +6,4 @@ use Rattle.kg_entities.proofs.table.Table.ids_differ.Goals as goal
 -- the keys of the entries are the ids of the rows
 pub returns : goal.returns
 returns g c =
-    subst (IsDistinct nat_eq) (keys_tied g.T.Row.number c.self.inside.rows.entries c.self.invariant ∙ ap (map g.T.Row.number) c.self.view_is) c.len-len.ensures.unique
+    subst (IsDistinct nat_eq) (keys_tied g.T.Row.number c.self.inside.rows.entries c.self.invariant.0 ∙ ap (map g.T.Row.number) c.self.view_is) c.self.invariant.1
