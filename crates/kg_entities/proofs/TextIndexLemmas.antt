@@ -249,11 +249,11 @@ module _ {T : Type 0} (number : T → ℕ) (text_of : T → Option (List ℕ)) w
       → list_any (has_id number (number new)) rows ≡ false → IsIndex number text_of before rows → IsIndex number text_of now (rows ++ new ∷ [])
   index_push before now new rows says free index = record {
     tells = λ text. subst (λ h. All (λ row. Tells h (number row) (is_text text (text_of row))) (rows ++ new ∷ [])) (sym (says text))
-      (All-push (Noted before new text) rows new
+        (All-push (Noted before new text) rows new
         (others_of_none number (Says before text) (Noted before new text) (number new) (λ row tells other. noted_other (before text) (number new) (number row) (is_text text (text_of new)) (is_text text (text_of row)) tells other) rows (index.tells text) free)
         (noted_itself (before text) (number new) (is_text text (text_of new)) (unnamed before rows (number new) index free text)));
     there = λ text a is. list_any-append (has_id number a) rows (new ∷ [])
-      ∙ ⊎_elim (λ was. ap (λ b. b || list_any (has_id number a) (new ∷ [])) (index.there text a was))
+        ∙ ⊎_elim (λ was. ap (λ b. b || list_any (has_id number a) (new ∷ [])) (index.there text a was))
         (λ same. ap (λ b. list_any (has_id number a) rows || (b || false)) (ap (λ k. nat_eq (number new) k) (sym same) ∙ same_number (number new)) ∙ or_true (list_any (has_id number a) rows))
         (noted_names (before text) (number new) a (is_text text (text_of new)) (sym (says text) ∙ is));
   }
@@ -269,15 +269,15 @@ module _ {T : Type 0} (number : T → ℕ) (text_of : T → Option (List ℕ)) w
       → IsIndex number text_of now (replaced (has_id number (number new)) new rows)
   index_replaced before now old new rows says found distinct index = record {
     tells = λ text. subst (λ h. All (λ row. Tells h (number row) (is_text text (text_of row))) (replaced (has_id number (number new)) new rows)) (sym (says text))
-      (let at = found_passes number (Says before text) (number new) old rows (index.tells text) found in
-      all_replaced number (Says before text) (Noted (less before old (number new)) new text) new
+        (let at = found_passes number (Says before text) (number new) old rows (index.tells text) found in
+        all_replaced number (Says before text) (Noted (less before old (number new)) new text) new
         (λ row tells other. noted_other (less before old (number new) text) (number new) (number row) (is_text text (text_of new)) (is_text text (text_of row))
-          (forgotten_other (before text) (number new) (number row) (is_text text (text_of old)) (is_text text (text_of row)) tells other) other)
+        (forgotten_other (before text) (number new) (number row) (is_text text (text_of old)) (is_text text (text_of row)) tells other) other)
         (noted_itself (less before old (number new) text) (number new) (is_text text (text_of new))
-          (forgotten_free (before text) (number new) (is_text text (text_of old)) (subst (λ n. Tells (before text) n (is_text text (text_of old))) (eqb-true (number old) (number new) at.1) at.0)))
+        (forgotten_free (before text) (number new) (is_text text (text_of old)) (subst (λ n. Tells (before text) n (is_text text (text_of old))) (eqb-true (number old) (number new) at.1) at.0)))
         rows (index.tells text) distinct at.2);
     there = λ text a is. ids_replaced number (λ n. nat_eq n a) new rows
-      ∙ ⊎_elim (λ was. index.there text a (forgotten_names (before text) (number new) a (is_text text (text_of old)) was))
+        ∙ ⊎_elim (λ was. index.there text a (forgotten_names (before text) (number new) a (is_text text (text_of old)) was))
         (λ same. subst (λ k. list_any (has_id number k) rows ≡ true) same (found_passes number (Says before text) (number new) old rows (index.tells text) found).2)
         (noted_names (less before old (number new) text) (number new) a (is_text text (text_of new)) (sym (says text) ∙ is));
   }
@@ -287,7 +287,7 @@ module _ {T : Type 0} (number : T → ℕ) (text_of : T → Option (List ℕ)) w
       → IsIndex number text_of before rows → IsIndex number text_of now left
   index_filter before now keep rows left less says index = record {
     tells = λ text. subst (λ h. All (λ row. Tells h (number row) (is_text text (text_of row))) left) (sym (says text))
-      (by text (before text) (subst (All (Says before text)) (sym less) (All-filter keep (Says before text) rows (index.tells text))));
+        (by text (before text) (subst (All (Says before text)) (sym less) (All-filter keep (Says before text) rows (index.tells text))));
     there = λ text a is. kept_names number left (before text) a (sym (says text) ∙ is);
   }
     where
@@ -307,10 +307,10 @@ module _ {T : Type 0} (number : T → ℕ) (text_of : T → Option (List ℕ)) w
       → IsIndex number text_of before rows → IsIndex number text_of now left
   index_removed before now old id rows left less says found index =
       index_filter before now (λ row. not (has_id number id row)) rows left less
-        (λ text. says text ∙ by text (before text) refl (is_text text (text_of old))
-          (let at = found_passes number (Says before text) id old rows (index.tells text) found in
-          subst (λ n. Tells (before text) n (is_text text (text_of old))) (eqb-true (number old) id at.1) at.0))
-        index
+      (λ text. says text ∙ by text (before text) refl (is_text text (text_of old))
+      (let at = found_passes number (Says before text) id old rows (index.tells text) found in
+      subst (λ n. Tells (before text) n (is_text text (text_of old))) (eqb-true (number old) id at.1) at.0))
+      index
     where
       there : (a : ℕ) → list_any (has_id number a) left ≡ list_any (has_id number a) (filter (λ row. not (has_id number id row)) rows)
       there a = ap (list_any (has_id number a)) less
@@ -323,7 +323,7 @@ module _ {T : Type 0} (number : T → ℕ) (text_of : T → Option (List ℕ)) w
       by text (Some (Only a)) is true tells =
           ap (λ b. cond {A = Option Holder} b None (Some (Only a))) (sym tells)
           ∙ sym (ap (λ b. cond {A = Option Holder} b (Some (Only a)) None)
-            (there a ∙ subst (λ k. list_any (has_id number k) (filter (λ row. not (has_id number id row)) rows) ≡ false) (eqb-true id a (sym tells)) (none_left number id rows)))
+          (there a ∙ subst (λ k. list_any (has_id number k) (filter (λ row. not (has_id number id row)) rows) ≡ false) (eqb-true id a (sym tells)) (none_left number id rows)))
       by text (Some (Only a)) is false tells =
           sym (ap (λ b. cond {A = Option Holder} b (Some (Only a)) None) (there a ∙ others_left number id a (sym tells) rows ∙ index.there text a is))
 

@@ -200,11 +200,13 @@ fn first_with_alias<'a, T: Named>(rows: &'a [T], text: &Text) -> Option<&'a T>
 fn has_other_with_name<T: Named>(rows: &[T], id: Id, text: &Text) -> bool
     ensures { result ≡ list_any (λ row. not (T.number row == id) && is_text text.now (T.name row)) rows.now }
 {
-    rows.iter().any(|row| row.id() != id && is(row.name(), text))
+    rows.iter()
+        .any(|row| row.id() != id && is(row.name(), text))
 }
 
 fn has_other_with_alias<T: Named>(rows: &[T], id: Id, text: &Text) -> bool
     ensures { result ≡ list_any (λ row. not (T.number row == id) && is_text text.now (T.alias row)) rows.now }
 {
-    rows.iter().any(|row| row.id() != id && is(row.alias(), text))
+    rows.iter()
+        .any(|row| row.id() != id && is(row.alias(), text))
 }

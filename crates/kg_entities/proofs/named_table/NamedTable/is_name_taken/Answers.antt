@@ -15,5 +15,5 @@ pub returns-in-Only : goal.returns-in-Only
 returns-in-Only g c =
     c.ne.ensures
     ∙ sym (taken_only g.T.Row.number g.T.Named.name (holder_of c.self.inside.names) c.args.text.now c.args.id c.in-Only.only c.self.inside.table c.self.invariant.0
-      (sym c.holder.ensures ∙ c.in-Some.is ∙ ap Some c.in-Only.is))
+    (sym c.holder.ensures ∙ c.in-Some.is ∙ ap Some c.in-Only.is))
     ∙ ap (list_any (is_others g.T.Row.number g.T.Named.name c.args.id c.args.text.now)) c.self.view_is

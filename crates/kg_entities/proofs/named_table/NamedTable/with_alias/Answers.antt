@@ -15,5 +15,5 @@ pub returns-in-Only : goal.returns-in-Only
 returns-in-Only g c =
     c.get.ensures.first
     ∙ found_only g.T.Row.number g.T.Named.alias (holder_of c.self.inside.aliases) c.args.text.now c.in-Only.id c.self.inside.table c.self.invariant.1
-      (sym c.holder.ensures ∙ c.in-Some.is ∙ ap Some c.in-Only.is)
+    (sym c.holder.ensures ∙ c.in-Some.is ∙ ap Some c.in-Only.is)
     ∙ ap (find (λ row. is_text c.args.text.now (g.T.Named.alias row))) c.self.view_is

@@ -8,11 +8,12 @@ use Rattle.kg_entities.proofs.table.Table.push.Goals as goal
 
 -- the new row is tied to its id
 pub invariant_of-self-2 : goal.invariant_of-self-2
-invariant_of-self-2 g c =
-    (subst (All (Tied g.T.Row.number))
-    (sym (c.in_ok-insert.ensures.entries ∙ ap (λ id. insert_entry nat_eq c.self.inside.rows.entries id c.args.row) c.id.ensures))
-    (tied_insert g.T.Row.number c.args.row c.self.inside.rows.entries c.self.invariant.0)
-    , c.in_ok-insert.ensures.unique)
+invariant_of-self-2 g c = (
+  subst (All (Tied g.T.Row.number))
+      (sym (c.in_ok-insert.ensures.entries ∙ ap (λ id. insert_entry nat_eq c.self.inside.rows.entries id c.args.row) c.id.ensures))
+      (tied_insert g.T.Row.number c.args.row c.self.inside.rows.entries c.self.invariant.0),
+  c.in_ok-insert.ensures.unique,
+)
 
 -- no row has its id, so its entry goes last
 pub returns-clause-ok : goal.returns-clause-ok

@@ -9,11 +9,12 @@ use Rattle.kg_entities.proofs.table.Table.replace.Goals as goal
 
 -- the row is tied to its id
 pub invariant_of-self : goal.invariant_of-self
-invariant_of-self g c =
-    (subst (All (Tied g.T.Row.number))
-    (sym (c.in-Ok.ensures.entries ∙ ap (λ id. insert_entry nat_eq c.self.inside.rows.entries id c.args.row) c.id-then-contains_key.ensures))
-    (tied_insert g.T.Row.number c.args.row c.self.inside.rows.entries c.self.invariant.0)
-    , c.in-Ok.ensures.unique)
+invariant_of-self g c = (
+  subst (All (Tied g.T.Row.number))
+      (sym (c.in-Ok.ensures.entries ∙ ap (λ id. insert_entry nat_eq c.self.inside.rows.entries id c.args.row) c.id-then-contains_key.ensures))
+      (tied_insert g.T.Row.number c.args.row c.self.inside.rows.entries c.self.invariant.0),
+  c.in-Ok.ensures.unique,
+)
 
 -- its entry is in the place of the first with its id
 pub returns-in-Ok : goal.returns-in-Ok
