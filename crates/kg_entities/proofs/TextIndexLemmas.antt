@@ -14,7 +14,7 @@ use Rattle.kg_entities.specs.TextIndexes.{Tells, IsIndex, noted, forgotten, is_o
 use Rattle.kg_entities.specs.declared.text_index.Holder.{Holder}
 use Rattle.kg_entities.specs.declared.text_index.Holder.TheVariants.{Only, Several}
 
-same_number : (n : ℕ) → nat_eq n n ≡ true
+pub same_number : (n : ℕ) → nat_eq n n ≡ true
 same_number n = ⊎_elim (λ yes. yes.0) (λ no. absurd (no.1 refl)) (eqb_tells n n)
 
 pub filter-kept : (test : Holder → Bool) (holder : Option Holder) → option_filter test holder ≡ kept test holder

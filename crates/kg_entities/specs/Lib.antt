@@ -2,6 +2,7 @@ pub mod ConfigWords
 pub mod Entities
 pub mod Ids
 pub mod Lookups
+pub mod OwnerIndexes
 pub mod Patterns
 pub mod PluginNames
 pub mod RowChanges

@@ -6,12 +6,14 @@ ghost use Rattle.std.specs.Str.{bytes_eq};
 ghost use Rattle.std.specs.Option.{option_copied};
 ghost use Rattle.kg_entities.specs.Entities.{kind_of, id_of_row};
 ghost use Rattle.kg_entities.specs.Lookups.{is_text, service_named, route_named, consumer_with_username, consumer_with_custom_id, cred_with_key, cred_with_username, named};
+ghost use Rattle.kg_entities.specs.OwnerIndexes.{AreRowsOf};
 ghost use Rattle.kg_entities.specs.RowChanges.{has_row, count_of, inserted, updated, removed, without_plugins_of, without_credentials_of};
 ghost use Rattle.kg_entities.specs.RowLists.{no_rows};
 
 use crate::consumer::{AclRow, BasicCred, Consumer, KeyCred};
 use crate::entity::{Entity, Kind};
 use crate::id::Id;
+use crate::memberships::Memberships;
 use crate::named_table::NamedTable;
 use crate::plugin::PluginRow;
 use crate::route::Route;
@@ -29,7 +31,7 @@ pub struct Rows {
     consumers: NamedTable<Consumer>,
     key_creds: NamedTable<KeyCred>,
     basic_creds: NamedTable<BasicCred>,
-    acls: Table<AclRow>,
+    acls: Memberships,
     plugins: Table<PluginRow>,
 }
 
@@ -52,7 +54,7 @@ impl Rows {
             consumers: NamedTable::new(alloc),
             key_creds: NamedTable::new(alloc),
             basic_creds: NamedTable::new(alloc),
-            acls: Table::new(alloc),
+            acls: Memberships::new(alloc),
             plugins: Table::new(alloc),
         }
     }
@@ -90,7 +92,7 @@ impl Rows {
     pub fn acls(&self) -> &Table<AclRow>
         ensures { result.now ≡ self.now.acls }
     {
-        &self.acls
+        self.acls.table()
     }
 
     pub fn plugins(&self) -> &Table<PluginRow>
@@ -109,7 +111,7 @@ impl Rows {
             Kind::Consumer => self.consumers.table().contains(id),
             Kind::KeyCred => self.key_creds.table().contains(id),
             Kind::BasicCred => self.basic_creds.table().contains(id),
-            Kind::Acl => self.acls.contains(id),
+            Kind::Acl => self.acls.table().contains(id),
             Kind::Plugin => self.plugins.contains(id),
         }
     }
@@ -124,7 +126,7 @@ impl Rows {
             Kind::Consumer => self.consumers.table().len(),
             Kind::KeyCred => self.key_creds.table().len(),
             Kind::BasicCred => self.basic_creds.table().len(),
-            Kind::Acl => self.acls.len(),
+            Kind::Acl => self.acls.table().len(),
             Kind::Plugin => self.plugins.len(),
         }
     }
@@ -183,6 +185,13 @@ impl Rows {
         self.basic_creds.with_name(text)
     }
 
+    /// The memberships of a consumer, in any order.
+    pub fn acls_of(&self, consumer: Id) -> &[AclRow]
+        ensures { AreRowsOf consumer result.now self.now.acls }
+    {
+        self.acls.of(consumer)
+    }
+
     /// Whether a service of another id has this name.
     pub fn is_service_name_taken(&self, id: Id, text: &Text) -> bool
         ensures { result ≡ list_any (λ row. not (row.id == id) && is_text text.now row.name) self.now.services }
@@ -237,7 +246,7 @@ impl Rows {
             Entity::Consumer(row) => self.consumers.push(alloc, row.try_clone(alloc)?),
             Entity::KeyCred(row) => self.key_creds.push(alloc, row.try_clone(alloc)?),
             Entity::BasicCred(row) => self.basic_creds.push(alloc, row.try_clone(alloc)?),
-            Entity::Acl(row) => self.acls.push(row.try_clone(alloc)?),
+            Entity::Acl(row) => self.acls.push(alloc, row.try_clone(alloc)?),
             Entity::Plugin(row) => self.plugins.push(row.try_clone(alloc)?),
         }
     }
@@ -253,10 +262,7 @@ impl Rows {
             Entity::Consumer(row) => self.consumers.replace(alloc, row.try_clone(alloc)?),
             Entity::KeyCred(row) => self.key_creds.replace(alloc, row.try_clone(alloc)?),
             Entity::BasicCred(row) => self.basic_creds.replace(alloc, row.try_clone(alloc)?),
-            Entity::Acl(row) => {
-                self.acls.replace(row.try_clone(alloc)?);
-                Ok(())
-            }
+            Entity::Acl(row) => self.acls.replace(alloc, row.try_clone(alloc)?),
             Entity::Plugin(row) => {
                 self.plugins.replace(row.try_clone(alloc)?);
                 Ok(())

@@ -1,4 +1,4 @@
-use Rattle.std.proofs.Common.{◌≡◌, Some, ap, sym, ◌∙◌}
+use Rattle.std.proofs.Common.{Some, ap, sym, ◌∙◌}
 use Rattle.std.specs.List.{list_any}
 use Rattle.kg_entities.specs.TextIndexes.{holder_of}
 use Rattle.kg_entities.proofs.TextIndexLemmas.{is_others, taken_none, taken_only}

@@ -1,4 +1,4 @@
-use Rattle.std.proofs.Common.{◌≡◌, nat_eq, sym, ap, subst, ◌∙◌}
+use Rattle.std.proofs.Common.{nat_eq, sym, ap, subst, ◌∙◌}
 use Rattle.std.specs.List.{list_any}
 use Rattle.kg_entities.specs.TextIndexes.{IsIndex, holder_of}
 use Rattle.kg_entities.proofs.TextIndexLemmas.{index_push, noted_alike}

@@ -1,4 +1,4 @@
-use Rattle.std.proofs.Common.{◌≡◌, Bool, false, Some, nat_eq, find, is_some, option_copied, sym, ap, subst, ◌∙◌}
+use Rattle.std.proofs.Common.{◌≡◌, Bool, false, Some, find, is_some, option_copied, sym, ap, subst, ◌∙◌}
 use Rattle.std.specs.List.{list_any}
 use Rattle.kg_entities.specs.Tables.{replaced}
 use Rattle.kg_entities.specs.TextIndexes.{IsIndex, holder_of}

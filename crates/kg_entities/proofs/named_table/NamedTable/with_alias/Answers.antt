@@ -1,4 +1,4 @@
-use Rattle.std.proofs.Common.{◌≡◌, Some, find, sym, ap, ◌∙◌}
+use Rattle.std.proofs.Common.{Some, find, sym, ap, ◌∙◌}
 use Rattle.kg_entities.specs.Lookups.{is_text}
 use Rattle.kg_entities.specs.TextIndexes.{holder_of}
 use Rattle.kg_entities.proofs.TextIndexLemmas.{found_none, found_only}

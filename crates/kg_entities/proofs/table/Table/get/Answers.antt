@@ -1,4 +1,4 @@
-use Rattle.std.proofs.Common.{◌≡◌, Bool, nat_eq, find, filter, map, option_to_list, sym, ap, subst, ◌∙◌}
+use Rattle.std.proofs.Common.{nat_eq, find, filter, option_to_list, ap, subst, ◌∙◌}
 use Rattle.std.specs.List.{IsDistinct}
 use Rattle.std.specs.Map.{values_of}
 use Rattle.kg_entities.proofs.TableLemmas.{found_tied, keys_tied, only_one}

@@ -1,4 +1,4 @@
-use Rattle.std.proofs.Common.{◌≡◌, nat_eq, map, sym, ap, subst, ◌∙◌}
+use Rattle.std.proofs.Common.{nat_eq, map, ap, subst, ◌∙◌}
 use Rattle.std.specs.List.{IsDistinct}
 use Rattle.kg_entities.proofs.TableLemmas.{keys_tied}
 use Rattle.kg_entities.proofs.table.Table.ids_differ.Goals as goal
