@@ -105,7 +105,7 @@ fn is_unique(row: &Entity, rows: &Rows) -> bool
         }
         Entity::KeyCred(cred) => !rows.is_key_taken(cred.id, &cred.key),
         Entity::BasicCred(cred) => !rows.is_login_taken(cred.id, &cred.username),
-        Entity::Acl(membership) => !is_membership_taken(membership, rows.acls().as_slice()),
+        Entity::Acl(membership) => !is_membership_taken(membership, rows),
         Entity::Plugin(plugin) => !is_place_taken(plugin, rows.plugins().as_slice()),
     }
 }
@@ -146,7 +146,13 @@ fn is_custom_id_free(consumer: &Consumer, rows: &Rows) -> bool
     }
 }
 
-fn is_membership_taken(membership: &AclRow, acls: &[AclRow]) -> bool
+fn is_membership_taken(membership: &AclRow, rows: &Rows) -> bool
+    ensures { result ≡ is_taken (λ other. other.id) membership.now.id (λ other. same_membership other membership.now) rows.now.acls }
+{
+    is_other_membership(membership, rows.acls_of(membership.consumer))
+}
+
+fn is_other_membership(membership: &AclRow, acls: &[AclRow]) -> bool
     ensures { result ≡ is_taken (λ other. other.id) membership.now.id (λ other. same_membership other membership.now) acls.now }
 {
     acls.iter().any(|other| other.id != membership.id && is_same_membership(other, membership))
