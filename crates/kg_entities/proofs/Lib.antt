@@ -1,2 +1,4 @@
 mod IdLemmas
+mod OwnerLemmas
 mod TableLemmas
+mod TextIndexLemmas

@@ -1,17 +1,18 @@
 -- The entries of a table and its rows: to look up, to add, to replace and to take out is the same in
 -- both.
-use Rattle.std.proofs.Common.{◌≡◌, ℕ, Bool, true, false, cond, ◌||◌, nat_eq, List, [], ◌∷◌, ◌++◌, Option, Some, None, is_some, filter, find, All, refl, sym, ap, subst, ◌∙◌, ⊎_elim, true≢false}
+use Rattle.std.proofs.Common.{◌≡◌, ℕ, Bool, true, false, cond, ◌||◌, nat_eq, List, [], ◌∷◌, ◌++◌, Option, Some, None, is_some, map, filter, find, option_to_list, All, refl, sym, ap, ap₂, subst, ◌∙◌, ⊎_elim, true≢false}
 use Rattle.std.proofs.lemmas.Bool.{eqb-true}
 use Rattle.std.proofs.lemmas.Bool.Decides.{eqb_tells}
 use Rattle.std.proofs.lemmas.List.Elements.{All-head, All-tail, All-cons, All-nil}
 use Rattle.std.proofs.lemmas.List.{map-append}
-use Rattle.std.specs.List.{list_any}
-use Rattle.std.specs.Map.{lookup, values_of}
+use Rattle.std.proofs.lemmas.Map.Keys.{IsDistinct-head, IsDistinct-tail}
+use Rattle.std.specs.List.{list_any, AllByRecursion, IsDistinct}
+use Rattle.std.specs.Map.{keys_of, lookup, values_of}
 use Rattle.indexmap.specs.IndexMap.{insert_entry}
 use Rattle.kg_entities.specs.Tables.{replaced}
 
 -- equality of numbers, asked the other way round
-flipped : (a b : ℕ) → nat_eq a b ≡ nat_eq b a
+pub flipped : (a b : ℕ) → nat_eq a b ≡ nat_eq b a
 flipped a b =
     ⊎_elim (λ yes. subst (λ c. nat_eq a c ≡ nat_eq c a) yes.1 refl)
     (λ no. no.0 ∙ sym (⊎_elim (λ yes. absurd (no.1 (sym yes.1))) (λ also. also.0) (eqb_tells b a))) (eqb_tells a b)
@@ -20,6 +21,11 @@ module _ {T : Type 0} (number : T → ℕ) where
   -- an entry's key is the id of its row
   abbrev pub Tied : ℕ × T → Type 0
   Tied e = e.0 ≡ number e.1
+
+  -- the keys are the ids of the rows
+  pub keys_tied : (es : List (ℕ × T)) → All Tied es → keys_of es ≡ map number (values_of es)
+  keys_tied [] tied = refl
+  keys_tied (e ∷ es) tied = ap₂ (λ id ids. id ∷ ids) (All-head Tied e es tied) (keys_tied es (All-tail Tied e es tied))
 
   -- the test of an entry's key is that of its row
   same_test : (id : ℕ) (e : ℕ × T) → Tied e → nat_eq id e.0 ≡ nat_eq (number e.1) id
@@ -38,6 +44,21 @@ module _ {T : Type 0} (number : T → ℕ) where
   is_some-find test (row ∷ rows) =
       (elim (test row) as (λ b. is_some (cond {A = Option T} b (Some row) (find test rows)) ≡ (b || list_any test rows))
       [ true ↦ refl | false ↦ is_some-find test rows ])
+
+  -- of rows with distinct ids no second one has the id
+  none_differ : (id : ℕ) (rows : List T) → AllByRecursion (λ n. nat_eq id n ≡ false) (map number rows) → filter (λ row. nat_eq (number row) id) rows ≡ []
+  none_differ id [] differ = refl
+  none_differ id (row ∷ rows) differ =
+      ap (λ b. cond {A = List T} b (row ∷ filter (λ r. nat_eq (number r) id) rows) (filter (λ r. nat_eq (number r) id) rows)) (flipped (number row) id ∙ differ.0)
+      ∙ none_differ id rows differ.1
+
+  pub only_one : (id : ℕ) (rows : List T) → IsDistinct nat_eq (map number rows) → option_to_list (find (λ row. nat_eq (number row) id) rows) ≡ filter (λ row. nat_eq (number row) id) rows
+  only_one id [] distinct = refl
+  only_one id (row ∷ rows) distinct =
+      (elim (nat_eq (number row) id) as (λ b. nat_eq (number row) id ≡ b → option_to_list (cond {A = Option T} b (Some row) (find (λ r. nat_eq (number r) id) rows)) ≡ cond {A = List T} b (row ∷ filter (λ r. nat_eq (number r) id) rows) (filter (λ r. nat_eq (number r) id) rows)) [
+        | true ↦ λ is. ap (λ rest. row ∷ rest) (sym (none_differ id rows (subst (λ k. AllByRecursion (λ n. nat_eq k n ≡ false) (map number rows)) (eqb-true (number row) id is) (IsDistinct-head nat_eq (number row) (map number rows) distinct))))
+        | false ↦ λ _. only_one id rows (IsDistinct-tail nat_eq (number row) (map number rows) distinct)
+      ]) refl
 
   -- where none has it, nothing is under the id
   pub nothing_tied : (id : ℕ) (es : List (ℕ × T)) → All Tied es → list_any (λ row. nat_eq (number row) id) (values_of es) ≡ false → lookup (nat_eq id) es ≡ None

@@ -8,12 +8,16 @@ mod consumer;
 mod entity;
 mod id;
 mod key;
+mod memberships;
+mod named_table;
+mod owner_index;
 mod plugin;
 mod route;
 mod row;
 mod rows;
 mod service;
 mod table;
+mod text_index;
 mod value;
 
 pub use crate::config::{

@@ -1,15 +1,20 @@
 //! All rows.
 
-ghost use Rattle.std.specs.Prelude.{◌≡◌, false, OnOk, OnErr};
+ghost use Rattle.std.specs.Prelude.{◌≡◌, ◌==◌, ◌&&◌, false, not, OnOk, OnErr};
+ghost use Rattle.std.specs.List.{list_any};
+ghost use Rattle.std.specs.Str.{bytes_eq};
 ghost use Rattle.std.specs.Option.{option_copied};
 ghost use Rattle.kg_entities.specs.Entities.{kind_of, id_of_row};
 ghost use Rattle.kg_entities.specs.Lookups.{is_text, service_named, route_named, consumer_with_username, consumer_with_custom_id, cred_with_key, cred_with_username, named};
+ghost use Rattle.kg_entities.specs.OwnerIndexes.{AreRowsOf};
 ghost use Rattle.kg_entities.specs.RowChanges.{has_row, count_of, inserted, updated, removed, without_plugins_of, without_credentials_of};
 ghost use Rattle.kg_entities.specs.RowLists.{no_rows};
 
 use crate::consumer::{AclRow, BasicCred, Consumer, KeyCred};
 use crate::entity::{Entity, Kind};
 use crate::id::Id;
+use crate::memberships::Memberships;
+use crate::named_table::NamedTable;
 use crate::plugin::PluginRow;
 use crate::route::Route;
 use crate::service::Service;
@@ -21,12 +26,12 @@ use std::marker::Model;
 /// All rows. Contracts see a list of each kind, in the order of insertion.
 #[derive(Debug, Drop)]
 pub struct Rows {
-    services: Table<Service>,
-    routes: Table<Route>,
-    consumers: Table<Consumer>,
-    key_creds: Table<KeyCred>,
-    basic_creds: Table<BasicCred>,
-    acls: Table<AclRow>,
+    services: NamedTable<Service>,
+    routes: NamedTable<Route>,
+    consumers: NamedTable<Consumer>,
+    key_creds: NamedTable<KeyCred>,
+    basic_creds: NamedTable<BasicCred>,
+    acls: Memberships,
     plugins: Table<PluginRow>,
 }
 
@@ -44,12 +49,12 @@ impl Rows {
         ensures { result ≡ no_rows }
     {
         Rows {
-            services: Table::new(alloc),
-            routes: Table::new(alloc),
-            consumers: Table::new(alloc),
-            key_creds: Table::new(alloc),
-            basic_creds: Table::new(alloc),
-            acls: Table::new(alloc),
+            services: NamedTable::new(alloc),
+            routes: NamedTable::new(alloc),
+            consumers: NamedTable::new(alloc),
+            key_creds: NamedTable::new(alloc),
+            basic_creds: NamedTable::new(alloc),
+            acls: Memberships::new(alloc),
             plugins: Table::new(alloc),
         }
     }
@@ -57,37 +62,37 @@ impl Rows {
     pub fn services(&self) -> &Table<Service>
         ensures { result.now ≡ self.now.services }
     {
-        &self.services
+        self.services.table()
     }
 
     pub fn routes(&self) -> &Table<Route>
         ensures { result.now ≡ self.now.routes }
     {
-        &self.routes
+        self.routes.table()
     }
 
     pub fn consumers(&self) -> &Table<Consumer>
         ensures { result.now ≡ self.now.consumers }
     {
-        &self.consumers
+        self.consumers.table()
     }
 
     pub fn key_creds(&self) -> &Table<KeyCred>
         ensures { result.now ≡ self.now.key_creds }
     {
-        &self.key_creds
+        self.key_creds.table()
     }
 
     pub fn basic_creds(&self) -> &Table<BasicCred>
         ensures { result.now ≡ self.now.basic_creds }
     {
-        &self.basic_creds
+        self.basic_creds.table()
     }
 
     pub fn acls(&self) -> &Table<AclRow>
         ensures { result.now ≡ self.now.acls }
     {
-        &self.acls
+        self.acls.table()
     }
 
     pub fn plugins(&self) -> &Table<PluginRow>
@@ -101,12 +106,12 @@ impl Rows {
         ensures { result ≡ has_row kind id self.now }
     {
         match kind {
-            Kind::Service => self.services.contains(id),
-            Kind::Route => self.routes.contains(id),
-            Kind::Consumer => self.consumers.contains(id),
-            Kind::KeyCred => self.key_creds.contains(id),
-            Kind::BasicCred => self.basic_creds.contains(id),
-            Kind::Acl => self.acls.contains(id),
+            Kind::Service => self.services.table().contains(id),
+            Kind::Route => self.routes.table().contains(id),
+            Kind::Consumer => self.consumers.table().contains(id),
+            Kind::KeyCred => self.key_creds.table().contains(id),
+            Kind::BasicCred => self.basic_creds.table().contains(id),
+            Kind::Acl => self.acls.table().contains(id),
             Kind::Plugin => self.plugins.contains(id),
         }
     }
@@ -116,12 +121,12 @@ impl Rows {
         ensures { result ≡ count_of kind self.now }
     {
         match kind {
-            Kind::Service => self.services.len(),
-            Kind::Route => self.routes.len(),
-            Kind::Consumer => self.consumers.len(),
-            Kind::KeyCred => self.key_creds.len(),
-            Kind::BasicCred => self.basic_creds.len(),
-            Kind::Acl => self.acls.len(),
+            Kind::Service => self.services.table().len(),
+            Kind::Route => self.routes.table().len(),
+            Kind::Consumer => self.consumers.table().len(),
+            Kind::KeyCred => self.key_creds.table().len(),
+            Kind::BasicCred => self.basic_creds.table().len(),
+            Kind::Acl => self.acls.table().len(),
             Kind::Plugin => self.plugins.len(),
         }
     }
@@ -130,40 +135,28 @@ impl Rows {
     pub fn service_named(&self, text: &Text) -> Option<&Service>
         ensures { option_copied result ≡ service_named text.now self.now.services }
     {
-        self.services
-            .as_slice()
-            .iter()
-            .find(|row| is(&row.name, text))
+        self.services.with_name(text)
     }
 
     /// The first route with this name.
     pub fn route_named(&self, text: &Text) -> Option<&Route>
         ensures { option_copied result ≡ route_named text.now self.now.routes }
     {
-        self.routes
-            .as_slice()
-            .iter()
-            .find(|row| is(&row.name, text))
+        self.routes.with_name(text)
     }
 
     /// The first consumer with this username.
     pub fn consumer_with_username(&self, text: &Text) -> Option<&Consumer>
         ensures { option_copied result ≡ consumer_with_username text.now self.now.consumers }
     {
-        self.consumers
-            .as_slice()
-            .iter()
-            .find(|row| is(&row.username, text))
+        self.consumers.with_name(text)
     }
 
     /// The first consumer with this custom id.
     pub fn consumer_with_custom_id(&self, text: &Text) -> Option<&Consumer>
         ensures { option_copied result ≡ consumer_with_custom_id text.now self.now.consumers }
     {
-        self.consumers
-            .as_slice()
-            .iter()
-            .find(|row| is(&row.custom_id, text))
+        self.consumers.with_alias(text)
     }
 
     /// The consumer whose printed id this is, else the first one with this username.
@@ -171,7 +164,7 @@ impl Rows {
         ensures { option_copied result ≡ named text.now self.now.consumers }
     {
         if let Some(id) = Id::of_printed(text.as_bytes()) {
-            if let Some(found) = self.consumers.get(id) {
+            if let Some(found) = self.consumers.table().get(id) {
                 return Some(found);
             }
         }
@@ -182,20 +175,63 @@ impl Rows {
     pub fn cred_with_key(&self, text: &Text) -> Option<&KeyCred>
         ensures { option_copied result ≡ cred_with_key text.now self.now.key_creds }
     {
-        self.key_creds
-            .as_slice()
-            .iter()
-            .find(|row| row.key == *text)
+        self.key_creds.with_name(text)
     }
 
     /// The first credential with this username.
     pub fn cred_with_username(&self, text: &Text) -> Option<&BasicCred>
         ensures { option_copied result ≡ cred_with_username text.now self.now.basic_creds }
     {
-        self.basic_creds
-            .as_slice()
-            .iter()
-            .find(|row| row.username == *text)
+        self.basic_creds.with_name(text)
+    }
+
+    /// The memberships of a consumer, in any order.
+    pub fn acls_of(&self, consumer: Id) -> &[AclRow]
+        ensures { AreRowsOf consumer result.now self.now.acls }
+    {
+        self.acls.of(consumer)
+    }
+
+    /// Whether a service of another id has this name.
+    pub fn is_service_name_taken(&self, id: Id, text: &Text) -> bool
+        ensures { result ≡ list_any (λ row. not (row.id == id) && is_text text.now row.name) self.now.services }
+    {
+        self.services.is_name_taken(id, text)
+    }
+
+    /// Whether a route of another id has this name.
+    pub fn is_route_name_taken(&self, id: Id, text: &Text) -> bool
+        ensures { result ≡ list_any (λ row. not (row.id == id) && is_text text.now row.name) self.now.routes }
+    {
+        self.routes.is_name_taken(id, text)
+    }
+
+    /// Whether a consumer of another id has this username.
+    pub fn is_username_taken(&self, id: Id, text: &Text) -> bool
+        ensures { result ≡ list_any (λ row. not (row.id == id) && is_text text.now row.username) self.now.consumers }
+    {
+        self.consumers.is_name_taken(id, text)
+    }
+
+    /// Whether a consumer of another id has this custom id.
+    pub fn is_custom_id_taken(&self, id: Id, text: &Text) -> bool
+        ensures { result ≡ list_any (λ row. not (row.id == id) && is_text text.now row.custom_id) self.now.consumers }
+    {
+        self.consumers.is_alias_taken(id, text)
+    }
+
+    /// Whether a credential of another id has this key.
+    pub fn is_key_taken(&self, id: Id, text: &Text) -> bool
+        ensures { result ≡ list_any (λ row. not (row.id == id) && bytes_eq row.key text.now) self.now.key_creds }
+    {
+        self.key_creds.is_name_taken(id, text)
+    }
+
+    /// Whether a credential of another id has this username.
+    pub fn is_login_taken(&self, id: Id, text: &Text) -> bool
+        ensures { result ≡ list_any (λ row. not (row.id == id) && bytes_eq row.username text.now) self.now.basic_creds }
+    {
+        self.basic_creds.is_name_taken(id, text)
     }
 
     /// Adds a copy of a row at the end of the list of its kind.
@@ -205,12 +241,12 @@ impl Rows {
         ensures err { OnErr result (self.new ≡ self.old) }
     {
         match row {
-            Entity::Service(row) => self.services.push(row.try_clone(alloc)?),
-            Entity::Route(row) => self.routes.push(row.try_clone(alloc)?),
-            Entity::Consumer(row) => self.consumers.push(row.try_clone(alloc)?),
-            Entity::KeyCred(row) => self.key_creds.push(row.try_clone(alloc)?),
-            Entity::BasicCred(row) => self.basic_creds.push(row.try_clone(alloc)?),
-            Entity::Acl(row) => self.acls.push(row.try_clone(alloc)?),
+            Entity::Service(row) => self.services.push(alloc, row.try_clone(alloc)?),
+            Entity::Route(row) => self.routes.push(alloc, row.try_clone(alloc)?),
+            Entity::Consumer(row) => self.consumers.push(alloc, row.try_clone(alloc)?),
+            Entity::KeyCred(row) => self.key_creds.push(alloc, row.try_clone(alloc)?),
+            Entity::BasicCred(row) => self.basic_creds.push(alloc, row.try_clone(alloc)?),
+            Entity::Acl(row) => self.acls.push(alloc, row.try_clone(alloc)?),
             Entity::Plugin(row) => self.plugins.push(row.try_clone(alloc)?),
         }
     }
@@ -221,15 +257,17 @@ impl Rows {
         ensures err { OnErr result (self.new ≡ self.old) }
     {
         match row {
-            Entity::Service(row) => self.services.replace(row.try_clone(alloc)?),
-            Entity::Route(row) => self.routes.replace(row.try_clone(alloc)?),
-            Entity::Consumer(row) => self.consumers.replace(row.try_clone(alloc)?),
-            Entity::KeyCred(row) => self.key_creds.replace(row.try_clone(alloc)?),
-            Entity::BasicCred(row) => self.basic_creds.replace(row.try_clone(alloc)?),
-            Entity::Acl(row) => self.acls.replace(row.try_clone(alloc)?),
-            Entity::Plugin(row) => self.plugins.replace(row.try_clone(alloc)?),
+            Entity::Service(row) => self.services.replace(alloc, row.try_clone(alloc)?),
+            Entity::Route(row) => self.routes.replace(alloc, row.try_clone(alloc)?),
+            Entity::Consumer(row) => self.consumers.replace(alloc, row.try_clone(alloc)?),
+            Entity::KeyCred(row) => self.key_creds.replace(alloc, row.try_clone(alloc)?),
+            Entity::BasicCred(row) => self.basic_creds.replace(alloc, row.try_clone(alloc)?),
+            Entity::Acl(row) => self.acls.replace(alloc, row.try_clone(alloc)?),
+            Entity::Plugin(row) => {
+                self.plugins.replace(row.try_clone(alloc)?);
+                Ok(())
+            }
         }
-        Ok(())
     }
 
     /// Takes out the row of this kind and id, and nothing else.
@@ -261,14 +299,5 @@ impl Rows {
         self.key_creds.remove_owned(consumer);
         self.basic_creds.remove_owned(consumer);
         self.acls.remove_owned(consumer);
-    }
-}
-
-fn is(set: &Option<Text>, text: &Text) -> bool
-    ensures { result ≡ is_text text.now set.now }
-{
-    match set {
-        Some(other) => other == text,
-        None => false,
     }
 }

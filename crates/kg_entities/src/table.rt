@@ -1,8 +1,8 @@
 //! The rows of one kind, with an index by id.
 
-ghost use Rattle.std.specs.Prelude.{◌≡◌, [], ◌∷◌, ◌++◌, ◌==◌, false, OnOk, OnErr, find, filter, length, not};
-ghost use Rattle.std.specs.Option.{option_copied};
-ghost use Rattle.std.specs.List.{list_any};
+ghost use Rattle.std.specs.Prelude.{◌≡◌, [], ◌∷◌, ◌++◌, ◌==◌, false, OnOk, OnErr, find, filter, length, map, nat_eq, not};
+ghost use Rattle.std.specs.Option.{option_copied, option_to_list};
+ghost use Rattle.std.specs.List.{list_any, IsDistinct};
 ghost use Rattle.kg_entities.specs.RowChanges.{names_row};
 ghost use Rattle.kg_entities.specs.Tables.{replaced};
 
@@ -22,7 +22,8 @@ pub struct Table<T: Row> {
 }
 
 impl<T: Row> Model for Table<T> {
-    ghost use Rattle.std.specs.Prelude.{List, map, All, ◌≡◌};
+    ghost use Rattle.std.specs.Prelude.{List, All, nat_eq, ◌≡◌};
+    ghost use Rattle.indexmap.specs.IndexMap.{IsUnique};
     ghost use Rattle.std.specs.Coded.{coded_list};
     ghost use Rattle.std.specs.Map.{values_of};
 
@@ -32,7 +33,7 @@ impl<T: Row> Model for Table<T> {
 
     ghost view = { λ table. values_of table.rows.entries };
 
-    ghost invariant = { λ table. All (λ entry. entry.0 ≡ T.number entry.1) table.rows.entries };
+    ghost invariant = { λ table. All (λ entry. entry.0 ≡ T.number entry.1) table.rows.entries × IsUnique nat_eq table.rows };
 }
 
 impl<T: Row> Table<T> {
@@ -57,9 +58,17 @@ impl<T: Row> Table<T> {
         self.rows.len()
     }
 
-    /// The first row with this id.
+    /// No two rows have the same id.
+    pub(crate) fn ids_differ(&self)
+        ensures { IsDistinct nat_eq (map T.number self.now) }
+    {
+        let _len = self.rows.len();
+    }
+
+    /// The row with this id, which is the only one.
     pub fn get(&self, id: Id) -> Option<&T>
-        ensures { option_copied result ≡ find (λ row. T.number row == id) self.now }
+        ensures first { option_copied result ≡ find (λ row. T.number row == id) self.now }
+        ensures only { option_to_list (option_copied result) ≡ filter (λ row. T.number row == id) self.now }
     {
         self.rows.get(&id)
     }

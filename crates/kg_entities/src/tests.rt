@@ -120,3 +120,35 @@ fn copies_are_made_with_ample_memory(rt: HostRuntime) -> Result<(), Fail> {
     assert!(rt; Value::Acls(List::new(alloc)).is_none());
     Ok(())
 }
+
+// The id of the first consumer with this username.
+fn holder(alloc: Global, rows: &Rows, username: &str) -> Result<Option<Id>, Fail> {
+    let username = text(alloc, username)?;
+    Ok(rows.consumer_with_username(&username).map(|row| row.id))
+}
+
+#[test]
+fn changed_rows_are_found_by_their_texts(rt: HostRuntime) -> Result<(), Fail> {
+    let alloc = rt.alloc();
+    let mut rows = three(alloc)?;
+    rows.replace(alloc, &consumer(alloc, 1, "z")?)?;
+    rows.remove(Kind::Consumer, id(2));
+    assert_eq!(rt; holder(alloc, &rows, "a")?, None);
+    assert_eq!(rt; holder(alloc, &rows, "z")?, Some(id(1)));
+    assert_eq!(rt; holder(alloc, &rows, "b")?, None);
+    assert!(rt; rows.is_username_taken(id(3), &text(alloc, "z")?));
+    assert!(rt; !rows.is_username_taken(id(1), &text(alloc, "z")?));
+    Ok(())
+}
+
+#[test]
+fn first_of_several_rows_with_a_text_is_found(rt: HostRuntime) -> Result<(), Fail> {
+    let alloc = rt.alloc();
+    let mut rows = three(alloc)?;
+    add(alloc, &mut rows, &consumer(alloc, 4, "b")?)?;
+    assert_eq!(rt; holder(alloc, &rows, "b")?, Some(id(2)));
+    assert!(rt; rows.is_username_taken(id(2), &text(alloc, "b")?));
+    rows.remove(Kind::Consumer, id(2));
+    assert_eq!(rt; holder(alloc, &rows, "b")?, Some(id(4)));
+    Ok(())
+}

@@ -1,6 +1,7 @@
 //! The gateway's own replies.
 
-ghost use Rattle.std.specs.Prelude.{◌≡◌, IfOk, IsUtf8};
+ghost use Rattle.std.specs.Prelude.{◌≡◌, IfOk};
+ghost use Rattle.std.specs.Str.Lossy.{utf8_lossy};
 ghost use Rattle.serde_json.specs.View.{view};
 ghost use Rattle.serde_json.specs.Written.{compact_text};
 ghost use Rattle.kg_message.specs.GatewayMessage.{gateway_message, message_object};
@@ -12,14 +13,11 @@ use serde_json::{Value, json};
 use std::alloc::{AllocError, Global};
 use std::str::from_utf8;
 
-/// The reply with this status, whose body is an object of JSON with the text as its `message`.
+/// The reply with this status, whose body is an object of JSON with the text as its `message`. The text
+/// is read as UTF-8: what isn't UTF-8 in it is replaced by U+FFFD, as `String::from_utf8_lossy` does.
 pub fn message(alloc: Global, status: u16, text: &[u8]) -> Result<Response, NoMemory>
-    requires { IsUtf8 text.now }
     ensures { IfOk result (λ response. response ≡ gateway_message status text.now) }
 {
-    let Ok(text) = from_utf8(text) else {
-        unreachable!()
-    };
     Ok(Response {
         status,
         headers: Headers::content_type(alloc, b"application/json; charset=utf-8")?,
@@ -27,7 +25,17 @@ pub fn message(alloc: Global, status: u16, text: &[u8]) -> Result<Response, NoMe
     })
 }
 
-fn message_body(alloc: Global, text: &str) -> Result<Bytes, NoMemory>
+// Only bytes that are no UTF-8 are copied.
+fn message_body(alloc: Global, text: &[u8]) -> Result<Bytes, NoMemory>
+    ensures { IfOk result (λ body. body ≡ compact_text (message_object (utf8_lossy text.now))) }
+{
+    match from_utf8(text) {
+        Ok(valid) => body_with(alloc, valid),
+        Err(_) => body_with(alloc, String::from_utf8_lossy(alloc, text)?.as_str()),
+    }
+}
+
+fn body_with(alloc: Global, text: &str) -> Result<Bytes, NoMemory>
     ensures { IfOk result (λ body. body ≡ compact_text (message_object text.now)) }
 {
     let body = message_object(alloc, text)?.to_string(alloc)?;

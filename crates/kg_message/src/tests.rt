@@ -149,3 +149,11 @@ fn the_text_of_a_message_is_quoted(rt: HostRuntime) -> Result<(), Fail> {
     assert_eq!(rt; body, "{\"message\":\"a \\\"b\\\" \\\\ \\u0001\u{e9}\"}");
     Ok(())
 }
+
+#[test]
+fn what_is_no_utf_8_in_a_message_is_replaced(rt: HostRuntime) -> Result<(), Fail> {
+    let reply = message(rt.alloc(), 400, b"a\xffb\xe2\x82")?;
+    let body = from_utf8(reply.body.as_slice())?;
+    assert_eq!(rt; body, "{\"message\":\"a\u{fffd}b\u{fffd}\"}");
+    Ok(())
+}

@@ -8,7 +8,9 @@ use Rattle.std.specs.Cmp.Lexicographic.{slice_cmp}
 use Rattle.std.specs.List.{list_any, list_all}
 use Rattle.std.specs.List.Sorted.{IsStrictlySortedBy}
 use Rattle.std.specs.Str.{bytes_eq}
+use Rattle.kg_entities.specs.OwnerIndexes.{AreRowsOf}
 use Rattle.kg_entities.specs.RowLists.{RowLists}
+use Rattle.kg_entities.specs.ValidRows.{same_membership}
 use Rattle.kg_entities.specs.declared.consumer.AclRow.{AclRow}
 use Rattle.kg_entities.specs.declared.key.Key.{Key}
 use Rattle.kg_entities.specs.declared.key.Key.TheVariants.{Cred, Basic, Consumer, Named, Acls}
@@ -95,6 +97,39 @@ module _ (consumer : ℕ) (acls : List AclRow) (groups : List (List ℕ)) where
 pub groups_ordered : (consumer : ℕ) (acls : List AclRow) → IsInByteOrder (groups_of consumer acls)
 unfolding IsStrictlySortedBy
 groups_ordered consumer acls = sorted_fold nat_list_cmp_total exact_bytes (groups_in consumer acls) [] (tt {0})
+
+any_same : {X : Type 0} (p q : X → Bool) → ((x : X) → p x ≡ q x) → (xs : List X) → list_any p xs ≡ list_any q xs
+any_same p q same [] = refl
+any_same p q same (x ∷ xs) = ap (λ b. b || list_any p xs) (same x) ∙ ap (λ b. q x || b) (any_same p q same xs)
+
+and_twice : (a b : Bool) → (a && (a && b)) ≡ (a && b)
+and_twice true b = refl
+and_twice false b = refl
+
+-- the rows of a consumer tell its groups
+pub groups_alike : (consumer : ℕ) (own acls : List AclRow) → AreRowsOf consumer own acls → groups_of consumer own ≡ groups_of consumer acls
+groups_alike consumer own acls are =
+    same_sorted nat_list_cmp_total exact_bytes (groups_of consumer own) (groups_of consumer acls) (groups_ordered consumer own) (groups_ordered consumer acls)
+    (λ t. in_set consumer own [] t
+      ∙ sym (any_rows (λ x. is_eq (slice_cmp nat_cmp t x)) consumer own)
+      ∙ are (λ row. row.consumer == consumer && is_eq (slice_cmp nat_cmp t row.group))
+      ∙ any_same (λ row. row.consumer == consumer && (row.consumer == consumer && is_eq (slice_cmp nat_cmp t row.group))) (λ row. row.consumer == consumer && is_eq (slice_cmp nat_cmp t row.group))
+        (λ row. and_twice (row.consumer == consumer) (is_eq (slice_cmp nat_cmp t row.group))) acls
+      ∙ any_rows (λ x. is_eq (slice_cmp nat_cmp t x)) consumer acls
+      ∙ sym (in_set consumer acls [] t))
+
+-- a membership that another row has stands among the rows of its consumer
+pub taken_alike : (membership : AclRow) (own acls : List AclRow) → AreRowsOf membership.consumer own acls
+    → list_any (λ other. not (other.id == membership.id) && same_membership other membership) own ≡ list_any (λ other. not (other.id == membership.id) && same_membership other membership) acls
+taken_alike membership own acls are =
+    are (λ other. not (other.id == membership.id) && same_membership other membership)
+    ∙ any_same (λ other. other.consumer == membership.consumer && (not (other.id == membership.id) && same_membership other membership)) (λ other. not (other.id == membership.id) && same_membership other membership)
+      (λ other. by (other.consumer == membership.consumer) (not (other.id == membership.id)) (bytes_eq other.group membership.group)) acls
+  where
+    by : (a b c : Bool) → (a && (b && (a && c))) ≡ (b && (a && c))
+    by true b c = refl
+    by false true c = refl
+    by false false c = refl
 
 -- the values of keys are orderly
 orderly : (rows : RowLists) (k : Key) → IsOrderly (value_of rows k)

@@ -2,16 +2,11 @@
 
 ghost use Rattle.std.specs.Prelude.{◌≡◌, ◌==◌, ◌&&◌, not};
 ghost use Rattle.std.specs.List.{list_any};
-ghost use Rattle.std.specs.Str.{bytes_eq};
-ghost use Rattle.kg_entities.specs.Lookups.{is_text};
 ghost use Rattle.kg_entities.specs.ValidRows.{same_membership, same_place};
 ghost use Rattle.kg_rows.specs.Allowed.{is_taken, is_free, has_if_set, has_scope, has_named_rows, is_unique, is_unused, is_consistent, has_room, is_allowed};
 
 use crate::command::Command;
-use kg_entities::{
-    AclRow, BasicCred, Consumer, Entity, Id, KeyCred, Kind, PluginRow, Route, Rows, Scope, Service,
-};
-use kg_text::Text;
+use kg_entities::{AclRow, Consumer, Entity, Id, Kind, PluginRow, Route, Rows, Scope, Service};
 
 /// Whether the command is allowed at these rows: an inserted row's id is new and its kind has fewer
 /// rows than the limit; an updated or deleted row is there; the rows that a row names are there; what
@@ -103,111 +98,61 @@ fn is_unique(row: &Entity, rows: &Rows) -> bool
     ensures { result ≡ is_unique row.now rows.now }
 {
     match row {
-        Entity::Service(service) => is_service_name_free(service, rows.services().as_slice()),
-        Entity::Route(route) => is_route_name_free(route, rows.routes().as_slice()),
+        Entity::Service(service) => is_service_name_free(service, rows),
+        Entity::Route(route) => is_route_name_free(route, rows),
         Entity::Consumer(consumer) => {
-            is_username_free(consumer, rows.consumers().as_slice())
-                && is_custom_id_free(consumer, rows.consumers().as_slice())
+            is_username_free(consumer, rows) && is_custom_id_free(consumer, rows)
         }
-        Entity::KeyCred(cred) => !is_key_taken(cred, rows.key_creds().as_slice()),
-        Entity::BasicCred(cred) => !is_login_taken(cred, rows.basic_creds().as_slice()),
-        Entity::Acl(membership) => !is_membership_taken(membership, rows.acls().as_slice()),
+        Entity::KeyCred(cred) => !rows.is_key_taken(cred.id, &cred.key),
+        Entity::BasicCred(cred) => !rows.is_login_taken(cred.id, &cred.username),
+        Entity::Acl(membership) => !is_membership_taken(membership, rows),
         Entity::Plugin(plugin) => !is_place_taken(plugin, rows.plugins().as_slice()),
     }
 }
 
-fn is_text(set: &Option<Text>, text: &Text) -> bool
-    ensures { result ≡ is_text text.now set.now }
-{
-    match set {
-        Some(other) => other == text,
-        None => false,
-    }
-}
-
-fn is_service_name_free(service: &Service, services: &[Service]) -> bool
-    ensures { result ≡ is_free (λ other. other.id) (λ other. other.name) service.now.id service.now.name services.now }
+fn is_service_name_free(service: &Service, rows: &Rows) -> bool
+    ensures { result ≡ is_free (λ other. other.id) (λ other. other.name) service.now.id service.now.name rows.now.services }
 {
     match &service.name {
-        Some(name) => !has_service_name(services, service.id, name),
+        Some(text) => !rows.is_service_name_taken(service.id, text),
         None => true,
     }
 }
 
-fn has_service_name(services: &[Service], id: Id, name: &Text) -> bool
-    ensures { result ≡ is_taken (λ other. other.id) id (λ other. is_text name.now other.name) services.now }
-{
-    services
-        .iter()
-        .any(|other| other.id != id && is_text(&other.name, name))
-}
-
-fn is_route_name_free(route: &Route, routes: &[Route]) -> bool
-    ensures { result ≡ is_free (λ other. other.id) (λ other. other.name) route.now.id route.now.name routes.now }
+fn is_route_name_free(route: &Route, rows: &Rows) -> bool
+    ensures { result ≡ is_free (λ other. other.id) (λ other. other.name) route.now.id route.now.name rows.now.routes }
 {
     match &route.name {
-        Some(name) => !has_route_name(routes, route.id, name),
+        Some(text) => !rows.is_route_name_taken(route.id, text),
         None => true,
     }
 }
 
-fn has_route_name(routes: &[Route], id: Id, name: &Text) -> bool
-    ensures { result ≡ is_taken (λ other. other.id) id (λ other. is_text name.now other.name) routes.now }
-{
-    routes
-        .iter()
-        .any(|other| other.id != id && is_text(&other.name, name))
-}
-
-fn is_username_free(consumer: &Consumer, consumers: &[Consumer]) -> bool
-    ensures { result ≡ is_free (λ other. other.id) (λ other. other.username) consumer.now.id consumer.now.username consumers.now }
+fn is_username_free(consumer: &Consumer, rows: &Rows) -> bool
+    ensures { result ≡ is_free (λ other. other.id) (λ other. other.username) consumer.now.id consumer.now.username rows.now.consumers }
 {
     match &consumer.username {
-        Some(name) => !has_username(consumers, consumer.id, name),
+        Some(text) => !rows.is_username_taken(consumer.id, text),
         None => true,
     }
 }
 
-fn has_username(consumers: &[Consumer], id: Id, name: &Text) -> bool
-    ensures { result ≡ is_taken (λ other. other.id) id (λ other. is_text name.now other.username) consumers.now }
-{
-    consumers
-        .iter()
-        .any(|other| other.id != id && is_text(&other.username, name))
-}
-
-fn is_custom_id_free(consumer: &Consumer, consumers: &[Consumer]) -> bool
-    ensures { result ≡ is_free (λ other. other.id) (λ other. other.custom_id) consumer.now.id consumer.now.custom_id consumers.now }
+fn is_custom_id_free(consumer: &Consumer, rows: &Rows) -> bool
+    ensures { result ≡ is_free (λ other. other.id) (λ other. other.custom_id) consumer.now.id consumer.now.custom_id rows.now.consumers }
 {
     match &consumer.custom_id {
-        Some(text) => !has_custom_id(consumers, consumer.id, text),
+        Some(text) => !rows.is_custom_id_taken(consumer.id, text),
         None => true,
     }
 }
 
-fn has_custom_id(consumers: &[Consumer], id: Id, text: &Text) -> bool
-    ensures { result ≡ is_taken (λ other. other.id) id (λ other. is_text text.now other.custom_id) consumers.now }
+fn is_membership_taken(membership: &AclRow, rows: &Rows) -> bool
+    ensures { result ≡ is_taken (λ other. other.id) membership.now.id (λ other. same_membership other membership.now) rows.now.acls }
 {
-    consumers
-        .iter()
-        .any(|other| other.id != id && is_text(&other.custom_id, text))
+    is_other_membership(membership, rows.acls_of(membership.consumer))
 }
 
-fn is_key_taken(cred: &KeyCred, creds: &[KeyCred]) -> bool
-    ensures { result ≡ is_taken (λ other. other.id) cred.now.id (λ other. bytes_eq other.key cred.now.key) creds.now }
-{
-    creds
-        .iter()
-        .any(|other| other.id != cred.id && other.key == cred.key)
-}
-
-fn is_login_taken(cred: &BasicCred, creds: &[BasicCred]) -> bool
-    ensures { result ≡ is_taken (λ other. other.id) cred.now.id (λ other. bytes_eq other.username cred.now.username) creds.now }
-{
-    creds.iter().any(|other| other.id != cred.id && other.username == cred.username)
-}
-
-fn is_membership_taken(membership: &AclRow, acls: &[AclRow]) -> bool
+fn is_other_membership(membership: &AclRow, acls: &[AclRow]) -> bool
     ensures { result ≡ is_taken (λ other. other.id) membership.now.id (λ other. same_membership other membership.now) acls.now }
 {
     acls.iter().any(|other| other.id != membership.id && is_same_membership(other, membership))

@@ -7,7 +7,7 @@ ghost use Rattle.kg_entities.specs.declared.key.Key.{Key as Asked};
 ghost use Rattle.kg_rows.specs.Candidates.{candidates, keys_of, keys_of_id, keys_below, keys_of_credentials, consumer_keys, cred_keys, basic_keys, acl_keys};
 
 use crate::command::Command;
-use kg_entities::{AclRow, BasicCred, Consumer, Entity, Id, Key, KeyCred, Kind, Owned, Row, Rows};
+use kg_entities::{AclRow, BasicCred, Consumer, Entity, Id, Key, KeyCred, Kind, Owned, Row, Rows, Table};
 use kg_text::{NoMemory, TryClone};
 use std::alloc::Global;
 
@@ -137,10 +137,10 @@ fn push_of_id(
     ensures { OnOk result (keys.new.items ≡ keys.old.items ++ keys_of_id kind id rows.now) }
 {
     match kind {
-        Kind::Consumer => push_with_id(alloc, rows.consumers().as_slice(), id, keys),
-        Kind::KeyCred => push_with_id(alloc, rows.key_creds().as_slice(), id, keys),
-        Kind::BasicCred => push_with_id(alloc, rows.basic_creds().as_slice(), id, keys),
-        Kind::Acl => push_with_id(alloc, rows.acls().as_slice(), id, keys),
+        Kind::Consumer => push_with_id(alloc, rows.consumers(), id, keys),
+        Kind::KeyCred => push_with_id(alloc, rows.key_creds(), id, keys),
+        Kind::BasicCred => push_with_id(alloc, rows.basic_creds(), id, keys),
+        Kind::Acl => push_with_id(alloc, rows.acls(), id, keys),
         Kind::Service => Ok(()),
         Kind::Route => Ok(()),
         Kind::Plugin => Ok(()),
@@ -161,21 +161,19 @@ fn push_of_credentials(
     Ok(())
 }
 
-// The keys that look at the rows with this id.
+// The keys that look at the row with this id.
 fn push_with_id<T: Keyed>(
     alloc: Global,
-    rows: &[T],
+    rows: &Table<T>,
     id: Id,
     keys: &mut Vec<Key>,
 ) -> Result<(), NoMemory>
     ensures { OnOk result (keys.new.items ≡ keys.old.items ++ flat_map T.asked (filter (λ row. T.number row == id) rows.now)) }
 {
-    for row in rows {
-        if row.id() == id {
-            row.push_keys(alloc, keys)?;
-        }
+    match rows.get(id) {
+        Some(row) => row.push_keys(alloc, keys),
+        None => Ok(()),
     }
-    Ok(())
 }
 
 // The keys that look at the rows of this consumer.

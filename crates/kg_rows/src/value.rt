@@ -22,7 +22,7 @@ pub fn value_of(alloc: Global, rows: &Rows, key: &Key) -> Result<Value, NoMemory
         Key::Basic(text) => Ok(Value::Basic(copied(alloc, rows.cred_with_username(text))?)),
         Key::Consumer(id) => Ok(Value::Consumer(copied(alloc, rows.consumers().get(*id))?)),
         Key::Named(text) => Ok(Value::Consumer(copied(alloc, rows.consumer_named(text))?)),
-        Key::Acls(id) => Ok(Value::Acls(groups_of(alloc, rows.acls().as_slice(), *id)?)),
+        Key::Acls(id) => Ok(Value::Acls(consumer_groups(alloc, rows, *id)?)),
     }
 }
 
@@ -42,6 +42,12 @@ fn copied<T: TryClone>(alloc: Global, found: Option<&T>) -> Result<Option<T>, No
 }
 
 // The groups of a consumer, in byte order.
+fn consumer_groups(alloc: Global, rows: &Rows, consumer: Id) -> Result<List<Text>, NoMemory>
+    ensures { IfOk result (λ groups. groups ≡ groups_of consumer rows.now.acls) }
+{
+    groups_of(alloc, rows.acls_of(consumer), consumer)
+}
+
 fn groups_of(alloc: Global, acls: &[AclRow], consumer: Id) -> Result<List<Text>, NoMemory>
     ensures { IfOk result (λ groups. groups ≡ groups_of consumer acls.now) }
 {
@@ -86,7 +92,7 @@ pub fn has_value(rows: &Rows, key: &Key, value: &Value) -> bool
             _ => false,
         },
         Key::Acls(id) => match value {
-            Value::Acls(groups) => has_groups(rows.acls().as_slice(), *id, groups),
+            Value::Acls(groups) => has_consumer_groups(rows, *id, groups),
             _ => false,
         },
     }
@@ -135,6 +141,12 @@ fn is_consumer(now: Option<&Consumer>, before: &Option<Consumer>) -> bool
             None => true,
         },
     }
+}
+
+fn has_consumer_groups(rows: &Rows, consumer: Id, groups: &List<Text>) -> bool
+    ensures { IsInByteOrder groups.now → IsTrue result ↔ (groups_of consumer rows.now.acls ≡ groups.now) }
+{
+    has_groups(rows.acls_of(consumer), consumer, groups)
 }
 
 // The groups of a consumer are these: each of its groups is among them, and each of them is one of its

@@ -7,10 +7,10 @@ use Rattle.kg_rows.proofs.generations.replaces_plugin.Goals as goal
 pub returns-in-Some : goal.returns-in-Some
 returns-in-Some c =
     replaced_changes (λ row. row.id == c.args.new.now.id) c.in-Some.old.now c.args.new.now c.args.rows.now.plugins c.is_same_plugin.result
-    (ap (find (λ row. row.id == c.args.new.now.id)) (sym c.plugins.ensures) ∙ sym c.get.ensures ∙ ap option_copied c.in-Some.is) c.is_same_plugin.ensures
+    (ap (find (λ row. row.id == c.args.new.now.id)) (sym c.plugins.ensures) ∙ sym c.get.ensures.first ∙ ap option_copied c.in-Some.is) c.is_same_plugin.ensures
 
 -- there is no row of its id
 pub returns-in-None : goal.returns-in-None
 returns-in-None c =
     none_replaced (λ row. row.id == c.args.new.now.id) c.args.new.now c.args.rows.now.plugins
-    (ap (find (λ row. row.id == c.args.new.now.id)) (sym c.plugins.ensures) ∙ sym c.get.ensures ∙ ap option_copied c.in-None.is)
+    (ap (find (λ row. row.id == c.args.new.now.id)) (sym c.plugins.ensures) ∙ sym c.get.ensures.first ∙ ap option_copied c.in-None.is)

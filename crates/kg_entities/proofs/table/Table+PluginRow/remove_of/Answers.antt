@@ -8,9 +8,11 @@ use Rattle.kg_entities.proofs.table.Table+PluginRow.remove_of.Goals as goal
 
 -- the rows that are left are tied
 pub invariant_of-self : goal.invariant_of-self
-invariant_of-self c =
-    subst (All (Tied (λ row. row.id))) (sym (filter-RetainsPairs _ (λ e. not (names_row c.args.kind c.args.id e.1)) _ (λ k row b w f. search rules) c.self.inside.rows.entries c.retain.new.self.entries c.retain.ensures.filtered))
-    (All-filter (λ e. not (names_row c.args.kind c.args.id e.1)) (Tied (λ row. row.id)) c.self.inside.rows.entries c.self.invariant)
+invariant_of-self c = (
+  subst (All (Tied (λ row. row.id))) (sym (filter-RetainsPairs _ (λ e. not (names_row c.args.kind c.args.id e.1)) _ (λ k row b w f. search rules) c.self.inside.rows.entries c.retain.new.self.entries c.retain.ensures.filtered))
+      (All-filter (λ e. not (names_row c.args.kind c.args.id e.1)) (Tied (λ row. row.id)) c.self.inside.rows.entries c.self.invariant.0),
+  c.retain.ensures.unique,
+)
 
 -- they are those that pass
 pub returns : goal.returns

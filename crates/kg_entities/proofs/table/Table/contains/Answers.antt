@@ -8,6 +8,6 @@ use Rattle.kg_entities.proofs.table.Table.contains.Goals as goal
 pub returns : goal.returns
 returns g c =
     c.contains_key.ensures
-    ∙ ap is_some (found_tied g.T.Row.number c.args.id c.self.inside.rows.entries c.self.invariant)
+    ∙ ap is_some (found_tied g.T.Row.number c.args.id c.self.inside.rows.entries c.self.invariant.0)
     ∙ is_some-find g.T.Row.number (λ row. nat_eq (g.T.Row.number row) c.args.id) (values_of c.self.inside.rows.entries)
     ∙ ap (list_any (λ row. nat_eq (g.T.Row.number row) c.args.id)) c.self.view_is

@@ -7,9 +7,11 @@ use Rattle.kg_entities.proofs.table.Table.remove_owned.Goals as goal
 
 -- the rows that are left are tied
 pub invariant_of-self : goal.invariant_of-self
-invariant_of-self g c =
-    subst (All (Tied g.T.Row.number)) (sym (filter-RetainsPairs _ (λ e. not (nat_eq (g.T.Owned.owner e.1) c.args.consumer)) _ (λ k row b w f. search rules) c.self.inside.rows.entries c.retain.new.self.entries c.retain.ensures.filtered))
-    (All-filter (λ e. not (nat_eq (g.T.Owned.owner e.1) c.args.consumer)) (Tied g.T.Row.number) c.self.inside.rows.entries c.self.invariant)
+invariant_of-self g c = (
+  subst (All (Tied g.T.Row.number)) (sym (filter-RetainsPairs _ (λ e. not (nat_eq (g.T.Owned.owner e.1) c.args.consumer)) _ (λ k row b w f. search rules) c.self.inside.rows.entries c.retain.new.self.entries c.retain.ensures.filtered))
+      (All-filter (λ e. not (nat_eq (g.T.Owned.owner e.1) c.args.consumer)) (Tied g.T.Row.number) c.self.inside.rows.entries c.self.invariant.0),
+  c.retain.ensures.unique,
+)
 
 -- they are those that pass
 pub returns : goal.returns

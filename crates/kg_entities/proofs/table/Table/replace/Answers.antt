@@ -9,10 +9,12 @@ use Rattle.kg_entities.proofs.table.Table.replace.Goals as goal
 
 -- the row is tied to its id
 pub invariant_of-self : goal.invariant_of-self
-invariant_of-self g c =
-    subst (All (Tied g.T.Row.number))
-    (sym (c.in-Ok.ensures.entries ∙ ap (λ id. insert_entry nat_eq c.self.inside.rows.entries id c.args.row) c.id-then-contains_key.ensures))
-    (tied_insert g.T.Row.number c.args.row c.self.inside.rows.entries c.self.invariant)
+invariant_of-self g c = (
+  subst (All (Tied g.T.Row.number))
+      (sym (c.in-Ok.ensures.entries ∙ ap (λ id. insert_entry nat_eq c.self.inside.rows.entries id c.args.row) c.id-then-contains_key.ensures))
+      (tied_insert g.T.Row.number c.args.row c.self.inside.rows.entries c.self.invariant.0),
+  c.in-Ok.ensures.unique,
+)
 
 -- its entry is in the place of the first with its id
 pub returns-in-Ok : goal.returns-in-Ok
@@ -23,7 +25,7 @@ returns-in-Ok g c =
     ap (λ id. is_some (lookup (nat_eq id) entries)) (sym c.id.ensures) ∙ sym c.contains_key.ensures ∙ c.if-contains_key.true in
     let now =
     ap values_of (c.in-Ok.ensures.entries ∙ ap (λ id. insert_entry nat_eq entries id c.args.row) c.id-then-contains_key.ensures)
-    ∙ replaced_tied number c.args.row entries c.self.invariant there
+    ∙ replaced_tied number c.args.row entries c.self.invariant.0 there
     ∙ ap (replaced (λ other. nat_eq (number other) (number c.args.row)) c.args.row) c.self.view_is in
     (elim c.match-this.branch [ in-Ok+in-Some-1 w ↦ w.self-is ∙ now | in-Ok+in-None-1 w ↦ w.self-is ∙ now | in-Err-2 w ↦ w.self-is ∙ now ])
 
@@ -36,7 +38,7 @@ returns-else-contains_key g c =
     let none =
     ap (list_any (λ other. nat_eq (number other) id)) (sym c.self.view_is)
     ∙ sym (is_some-find number (λ other. nat_eq (number other) id) (values_of entries))
-    ∙ ap is_some (sym (found_tied number id entries c.self.invariant))
+    ∙ ap is_some (sym (found_tied number id entries c.self.invariant.0))
     ∙ ap (λ n. is_some (lookup (nat_eq n) entries)) (sym c.id.ensures)
     ∙ sym c.contains_key.ensures ∙ c.if-contains_key.false in
     not_replaced number c.args.row (λ other. nat_eq (number other) id) c.args.self.now none

@@ -1,0 +1,102 @@
+//! The memberships of each consumer.
+
+ghost use Rattle.std.specs.Prelude.{◌≡◌, ◌==◌, ℕ, [], filter, not, IfOk, OnOk, OnErr, if◌then◌else◌};
+ghost use Rattle.kg_entities.specs.OwnerIndexes.{listed, with_row, exchanged};
+
+use crate::consumer::AclRow;
+use crate::id::Id;
+use indexmap::IndexMap;
+use kg_text::{List, NoMemory, TryClone};
+use std::alloc::Global;
+
+/// For each consumer a copy of each of its rows, in any order.
+#[derive(Debug, Drop)]
+pub(crate) struct OwnerIndex {
+    pub(crate) lists: IndexMap<Id, List<AclRow>>,
+}
+
+impl OwnerIndex {
+    /// No rows. It takes no memory.
+    pub(crate) fn new(alloc: Global) -> OwnerIndex
+        ensures { (consumer : ℕ) → listed result consumer ≡ [] }
+    {
+        OwnerIndex {
+            lists: IndexMap::new(alloc),
+        }
+    }
+
+    /// The rows of a consumer.
+    pub(crate) fn of(&self, consumer: Id) -> &[AclRow]
+        ensures { result.now ≡ listed self.now consumer }
+    {
+        match self.lists.get(&consumer) {
+            Some(rows) => rows.as_slice(),
+            None => &[],
+        }
+    }
+
+    /// Its consumer has one more row.
+    pub(crate) fn note(&mut self, alloc: Global, row: AclRow) -> Result<(), NoMemory>
+        ensures ok { OnOk result ((consumer : ℕ) → listed self.new consumer ≡ with_row row consumer (listed self.old consumer)) }
+        ensures err { OnErr result ((consumer : ℕ) → listed self.new consumer ≡ listed self.old consumer) }
+    {
+        let consumer = row.consumer;
+        if let Some(rows) = self.lists.get_mut(&consumer) {
+            return rows.push(row);
+        }
+        let mut rows = List::new(alloc);
+        rows.push(row)?;
+        self.lists.insert(consumer, rows)?;
+        Ok(())
+    }
+
+    /// The consumer doesn't have the row with this id any more.
+    pub(crate) fn forget(&mut self, consumer: Id, id: Id)
+        ensures { (other : ℕ) → listed self.new other ≡ (if consumer == other then filter (λ row. not (row.id == id)) (listed self.old other) else listed self.old other) }
+    {
+        if let Some(rows) = self.lists.get_mut(&consumer) {
+            rows.retain(|row| row.id != id);
+        }
+    }
+
+    /// The row takes the place of the one with its id, which is the consumer's `before`.
+    pub(crate) fn exchange(
+        &mut self,
+        alloc: Global,
+        before: Id,
+        row: AclRow,
+    ) -> Result<(), NoMemory>
+        ensures ok { OnOk result ((consumer : ℕ) → listed self.new consumer ≡ exchanged before row consumer (listed self.old consumer)) }
+        ensures err { OnErr result ((consumer : ℕ) → listed self.new consumer ≡ listed self.old consumer) }
+    {
+        let consumer = row.consumer;
+        let id = row.id;
+        let mut rows = others(alloc, self.of(consumer), id)?;
+        rows.push(row)?;
+        self.lists.insert(consumer, rows)?;
+        if before != consumer {
+            self.forget(before, id);
+        }
+        Ok(())
+    }
+
+    /// The consumer has no rows any more.
+    pub(crate) fn forget_all(&mut self, consumer: Id)
+        ensures { (other : ℕ) → listed self.new other ≡ (if consumer == other then [] else listed self.old other) }
+    {
+        self.lists.swap_remove(&consumer);
+    }
+}
+
+// Copies of the rows but the one with this id.
+fn others(alloc: Global, rows: &[AclRow], id: Id) -> Result<List<AclRow>, NoMemory>
+    ensures { IfOk result (λ copies. copies ≡ filter (λ row. not (row.id == id)) rows.now) }
+{
+    let mut copies = List::new(alloc);
+    for row in rows {
+        if row.id != id {
+            copies.push(row.try_clone(alloc)?)?;
+        }
+    }
+    Ok(copies)
+}
