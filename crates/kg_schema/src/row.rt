@@ -5,7 +5,7 @@ ghost use Rattle.std.specs.Prelude.{◌≡◌, [], IfOk, IfErr, OnOk, fold, opti
 ghost use Rattle.std.specs.Str.{bytes_eq};
 ghost use Rattle.serde_json.specs.View.{view};
 ghost use Rattle.kg_schema.specs.Bases.{base_of, given_word};
-ghost use Rattle.kg_schema.specs.Between.{differ, faults_between, id_faults, is_renamed, parent_text, row_faults, strange_faults, word_faults, word_field};
+ghost use Rattle.kg_schema.specs.Between.{accepts_word, differ, faults_between, id_faults, is_renamed, parent_text, row_faults, strange_faults, word_faults, word_field};
 ghost use Rattle.kg_schema.specs.Finished.{row_over};
 ghost use Rattle.kg_schema.specs.Rules.{Tells, tell};
 ghost use Rattle.kg_schema.specs.Settings.{text_at};
@@ -35,9 +35,10 @@ use crate::row::tell::tell_if;
 use crate::form::{Form, FormError};
 use crate::rule::Rule;
 use crate::settings::{id_at, text_at};
+use crate::text_rule::text_rule;
 use crate::word::Word;
 use kg_entities::{Entity, Kind};
-use kg_text::NoMemory;
+use kg_text::{NoMemory, Text};
 use serde_json::Value;
 use std::alloc::Global;
 
@@ -50,30 +51,11 @@ pub fn finish(alloc: Global, form: &Form, base: Base<'_>, links: &Links) -> Resu
     ensures valid { OnOk result (faults_between form.now.kind (view form.now.body) (base_of base.entry) links.now None ≡ []) }
     ensures violation { IfErr result (λ e. Tells e (faults_between form.now.kind (view form.now.body) (base_of base.entry) links.now None)) }
 {
-    match base {
-        Base::New { id, now } => finish_under(alloc, form, &Base::New { id, now }, links, None),
-        Base::Again {
-            id,
-            created_at,
-            now,
-        } => {
-            let base = Base::Again {
-                id,
-                created_at,
-                now,
-            };
-            finish_under(alloc, form, &base, links, None)
-        }
-        Base::Word { id, word, now } => {
-            finish_under(alloc, form, &Base::Word { id, word, now }, links, None)
-        }
-        Base::Old { row, now } => finish_under(alloc, form, &Base::Old { row, now }, links, None),
-    }
+    finish_under(alloc, form, &base, links, None)
 }
 
 /// As [`finish`], for a row that stands under a parent: `strange` is the field of its parent, where
 /// the body names another one there, which breaks `fixed`.
-#[tactic(auto, using(crate::proofs::RuleLemmas::in_order_none))]
 pub fn finish_under(
     alloc: Global,
     form: &Form,
@@ -85,14 +67,37 @@ pub fn finish_under(
     ensures valid { OnOk result (faults_between form.now.kind (view form.now.body) (base_of base.now) links.now strange ≡ []) }
     ensures violation { IfErr result (λ e. Tells e (faults_between form.now.kind (view form.now.body) (base_of base.now) links.now strange)) }
 {
-    let row = row_over(alloc, form.kind(), form.body(), base, links)?;
-    let faults = faults_between(alloc, form, base, links, strange, &row)?;
+    match row_over(alloc, form.kind(), form.body(), base, links) {
+        Ok(row) => match judge_row(alloc, form, base, links, strange, &row) {
+            Ok(()) => Ok(row),
+            Err(error) => Err(error),
+        },
+        Err(_) => Err(FormError::NoMemory),
+    }
+}
+
+// The rules between the fields that the finished row breaks.
+#[tactic(auto, using(crate::proofs::RuleLemmas::in_order_none))]
+fn judge_row(
+    alloc: Global,
+    form: &Form,
+    base: &Base<'_>,
+    links: &Links,
+    strange: Option<ParentField>,
+    row: &Entity,
+) -> Result<(), FormError>
+    requires { row.now ≡ row_over form.now.kind (view form.now.body) (base_of base.now) links.now }
+    ensures valid { OnOk result (faults_between form.now.kind (view form.now.body) (base_of base.now) links.now strange ≡ []) }
+    ensures violation { IfErr result (λ e. Tells e (faults_between form.now.kind (view form.now.body) (base_of base.now) links.now strange)) }
+{
+    let faults = faults_between(alloc, form, base, links, strange, row)?;
     if faults.is_empty() {
-        return Ok(row);
+        return Ok(());
     }
     Err(FormError::Violation(faults.into_list(alloc)?))
 }
 
+#[tactic(auto, unfolding(crate::specs::Finished::row_over))]
 fn row_over(
     alloc: Global,
     kind: Kind,
@@ -135,6 +140,7 @@ fn row_over(
     }
 }
 
+#[tactic(auto, unfolding(crate::specs::Between::faults_between))]
 fn faults_between(
     alloc: Global,
     form: &Form,
@@ -191,6 +197,17 @@ fn tell_id(alloc: Global, faults: &mut Faults, body: &Value, base: &Base<'_>) ->
         None => false,
     };
     tell_if(alloc, faults, other, "id", Rule::Fixed)
+}
+
+/// Whether a row of the kind can be made by this word: the name of a service or a route, the username of
+/// a consumer, the key, username or group of a credential. A plugin has no word.
+pub fn accepts_word(alloc: Global, kind: Kind, word: &Text) -> Result<bool, NoMemory>
+    ensures { IfOk result (λ accepts. accepts ≡ accepts_word kind word.now) }
+{
+    match word_field(kind) {
+        Some((_, spelled)) => Ok(text_rule(alloc, spelled, word.as_str())?.is_none()),
+        None => Ok(false),
+    }
 }
 
 // Tells a word that is another than the one by which the row is made.
