@@ -51,7 +51,25 @@ pub fn finish(alloc: Global, form: &Form, base: Base<'_>, links: &Links) -> Resu
     ensures valid { OnOk result (faults_between form.now.kind (view form.now.body) (base_of base.entry) links.now None ≡ []) }
     ensures violation { IfErr result (λ e. Tells e (faults_between form.now.kind (view form.now.body) (base_of base.entry) links.now None)) }
 {
-    finish_under(alloc, form, &base, links, None)
+    match base {
+        Base::New { id, now } => finish_under(alloc, form, &Base::New { id, now }, links, None),
+        Base::Again {
+            id,
+            created_at,
+            now,
+        } => {
+            let base = Base::Again {
+                id,
+                created_at,
+                now,
+            };
+            finish_under(alloc, form, &base, links, None)
+        }
+        Base::Word { id, word, now } => {
+            finish_under(alloc, form, &Base::Word { id, word, now }, links, None)
+        }
+        Base::Old { row, now } => finish_under(alloc, form, &Base::Old { row, now }, links, None),
+    }
 }
 
 /// As [`finish`], for a row that stands under a parent: `strange` is the field of its parent, where
