@@ -1,2 +1,2 @@
-mod IdLemmas
+pub mod IdLemmas
 mod TableLemmas

@@ -20,6 +20,7 @@ mod route;
 mod service;
 mod set;
 mod tell;
+mod valid;
 
 use crate::base::{Base, Links, ParentField};
 use crate::fault::Faults;
@@ -32,6 +33,7 @@ use crate::row::plugin::{old_plugin, plugin_before, plugin_over, tell_plugin};
 use crate::row::route::{route_before, route_over, tell_route};
 use crate::row::service::{service_before, service_over, tell_service};
 use crate::row::tell::tell_if;
+pub use crate::row::valid::finished_rows_are_valid;
 use crate::form::{Form, FormError};
 use crate::rule::Rule;
 use crate::settings::{id_at, text_at};
