@@ -9,6 +9,8 @@ ghost use Rattle.kg_schema.specs.Between.{accepts_word, differ, faults_between, 
 ghost use Rattle.kg_schema.specs.Finished.{row_over};
 ghost use Rattle.kg_schema.specs.Rules.{Tells, tell};
 ghost use Rattle.kg_schema.specs.Settings.{text_at};
+ghost use Rattle.kg_schema.specs.ValidBases.{IsValidBase};
+ghost use Rattle.kg_entities.specs.ValidRows.{IsValidRow};
 
 mod config;
 mod consumer;
@@ -109,7 +111,9 @@ fn judge_row(
     requires { row.now ≡ row_over form.now.kind (view form.now.body) (base_of base.now) links.now }
     ensures valid { OnOk result (faults_between form.now.kind (view form.now.body) (base_of base.now) links.now strange ≡ []) }
     ensures violation { IfErr result (λ e. Tells e (faults_between form.now.kind (view form.now.body) (base_of base.now) links.now strange)) }
+    ensures valid_row { IsValidBase form.now.kind (base_of base.now) → OnOk result (IsValidRow row.now) }
 {
+    finished_rows_are_valid();
     let faults = faults_between(alloc, form, base, links, strange, row)?;
     if faults.is_empty() {
         return Ok(());
