@@ -47,13 +47,15 @@ use serde_json::Value;
 use std::alloc::Global;
 
 /// Makes the row of a form: what its body sets, over the old row or over the defaults of its kind,
-/// with the rows that it names. An old row has to be of the form's kind; another counts as none.
+/// with the rows that it names. An old row has to be of the form's kind; another counts as none. The
+/// row is valid, where an old row is and a word is one that the kind takes.
 ///
 /// `Violation` has exactly the rules between fields that are broken, in byte order of their paths.
 pub fn finish(alloc: Global, form: &Form, base: Base<'_>, links: &Links) -> Result<Entity, FormError>
     ensures row { IfOk result (λ row. row ≡ row_over form.now.kind (view form.now.body) (base_of base.entry) links.now) }
     ensures valid { OnOk result (faults_between form.now.kind (view form.now.body) (base_of base.entry) links.now None ≡ []) }
     ensures violation { IfErr result (λ e. Tells e (faults_between form.now.kind (view form.now.body) (base_of base.entry) links.now None)) }
+    ensures valid_row { IsValidBase form.now.kind (base_of base.entry) → IfOk result IsValidRow }
 {
     match base {
         Base::New { id, now } => finish_under(alloc, form, &Base::New { id, now }, links, None),
@@ -88,6 +90,7 @@ pub fn finish_under(
     ensures row { IfOk result (λ row. row ≡ row_over form.now.kind (view form.now.body) (base_of base.now) links.now) }
     ensures valid { OnOk result (faults_between form.now.kind (view form.now.body) (base_of base.now) links.now strange ≡ []) }
     ensures violation { IfErr result (λ e. Tells e (faults_between form.now.kind (view form.now.body) (base_of base.now) links.now strange)) }
+    ensures valid_row { IsValidBase form.now.kind (base_of base.now) → IfOk result IsValidRow }
 {
     match row_over(alloc, form.kind(), form.body(), base, links) {
         Ok(row) => match judge_row(alloc, form, base, links, strange, &row) {
