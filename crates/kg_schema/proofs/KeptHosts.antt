@@ -39,7 +39,7 @@ lower_byte b is = at_tests (nat_lt b 65) (nat_lt b 91) refl refl
     at_tests false false x y = is
     at_tests false true x y =
         or_left (is_ascii_alphanumeric (b + 32)) (list_any (λ mark. mark == b + 32) (codes ".-_"))
-            (or_right (is_in_range 48 57 (b + 32) || is_in_range 65 90 (b + 32)) (is_in_range 97 122 (b + 32)) (lower_letter b x y))
+        (or_right (is_in_range 48 57 (b + 32) || is_in_range 65 90 (b + 32)) (is_in_range 97 122 (b + 32)) (lower_letter b x y))
 
 lower_host : (text : List ℕ) → has_host_form text ≡ true → has_host_form (str_to_ascii_lowercase text) ≡ true
 lower_host [] is = refl
@@ -62,8 +62,8 @@ lower_front : (text : List ℕ) → (starts_with nat_eq text (codes "*.") && has
 lower_front text is =
     let parts = and_parts (starts_with nat_eq text (codes "*.")) (has_host_form (drop 1 text)) is in
     and_from (starts_with nat_eq (str_to_ascii_lowercase text) (codes "*.")) (has_host_form (drop 1 (str_to_ascii_lowercase text)))
-        (lower_part (codes "*.") (take 2 text) (take 2 (str_to_ascii_lowercase text)) refl (take-map to_ascii_lowercase 2 text) parts.0)
-        (ap has_host_form (drop-map to_ascii_lowercase 1 text) ∙ lower_host (drop 1 text) parts.1)
+    (lower_part (codes "*.") (take 2 text) (take 2 (str_to_ascii_lowercase text)) refl (take-map to_ascii_lowercase 2 text) parts.0)
+    (ap has_host_form (drop-map to_ascii_lowercase 1 text) ∙ lower_host (drop 1 text) parts.1)
 
 lower_back : (text : List ℕ) → (ends_with nat_eq text (codes ".*") && has_host_form (take (length text - 1) text)) ≡ true
     → (ends_with nat_eq (str_to_ascii_lowercase text) (codes ".*") && has_host_form (take (length (str_to_ascii_lowercase text) - 1) (str_to_ascii_lowercase text))) ≡ true
@@ -72,8 +72,8 @@ lower_back text is =
     let long : length low ≡ length text = length-map text to_ascii_lowercase in
     let parts = and_parts (ends_with nat_eq text (codes ".*")) (has_host_form (take (length text - 1) text)) is in
     and_from (ends_with nat_eq low (codes ".*")) (has_host_form (take (length low - 1) low))
-        (lower_part (codes ".*") (drop (length text - 2) text) (drop (length low - 2) low) refl (ap (λ n. drop (n - 2) low) long ∙ drop-map to_ascii_lowercase (length text - 2) text) parts.0)
-        (ap (λ n. has_host_form (take (n - 1) low)) long ∙ ap has_host_form (take-map to_ascii_lowercase (length text - 1) text) ∙ lower_host (take (length text - 1) text) parts.1)
+    (lower_part (codes ".*") (drop (length text - 2) text) (drop (length low - 2) low) refl (ap (λ n. drop (n - 2) low) long ∙ drop-map to_ascii_lowercase (length text - 2) text) parts.0)
+    (ap (λ n. has_host_form (take (n - 1) low)) long ∙ ap has_host_form (take-map to_ascii_lowercase (length text - 1) text) ∙ lower_host (take (length text - 1) text) parts.1)
 
 -- the three forms in which `*` stands
 abbrev star : List ℕ → Bool
@@ -111,5 +111,5 @@ takes_route_host text ok =
     let parts = and_parts (has_length 255 text) (has_route_host_form text) (bounded word.RouteHost 255 refl text ok) in
     let long : has_length 255 low ≡ true = ap (λ n. nat_lt 0 n && nat_le n 255) (length-map text to_ascii_lowercase) ∙ parts.0 in
     and_from (is_route_host low) (bytes_eq (str_to_ascii_lowercase low) low)
-        (and_from (has_length 255 low) (has_route_host_form low) long (lower_form text parts.1))
-        (same (str_to_ascii_lowercase low) low (lower_twice text))
+    (and_from (has_length 255 low) (has_route_host_form low) long (lower_form text parts.1))
+    (same (str_to_ascii_lowercase low) low (lower_twice text))

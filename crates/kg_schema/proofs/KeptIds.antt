@@ -43,7 +43,7 @@ simple_ok digits = at_test ((length digits == 32) && list_all is_hex_digit digit
     at_test true is =
         let all : list_all is_hex_digit digits ≡ true = (and_parts (length digits == 32) (list_all is_hex_digit digits) is).1 in
         λ i within. rw (by_index_at 16 (byte_of_digits digits) i 0 within)
-            (two (value_of (slice_index digits (2 * i))) (value_of (slice_index digits (2 * i + 1))) (each_small digits all (2 * i)) (each_small digits all (2 * i + 1)))
+        (two (value_of (slice_index digits (2 * i))) (value_of (slice_index digits (2 * i + 1))) (each_small digits all (2 * i)) (each_small digits all (2 * i + 1)))
     at_test false is = tt
 
 either : (b : Bool) (one another : Option (List ℕ)) → IfSome one AreBytes → IfSome another AreBytes → IfSome (if b then one else another) AreBytes
@@ -75,9 +75,9 @@ sum_small a b c d e f g h i j k l m n o p a1 b1 c1 d1 e1 f1 g1 h1 i1 j1 k1 l1 m1
 bytes_fit : (bytes : List ℕ) → AreBytes bytes → from_be_bytes w128 bytes < 2 ^ 128
 bytes_fit bytes are =
     sum_small (slice_index bytes 0) (slice_index bytes 1) (slice_index bytes 2) (slice_index bytes 3) (slice_index bytes 4) (slice_index bytes 5) (slice_index bytes 6) (slice_index bytes 7)
-        (slice_index bytes 8) (slice_index bytes 9) (slice_index bytes 10) (slice_index bytes 11) (slice_index bytes 12) (slice_index bytes 13) (slice_index bytes 14) (slice_index bytes 15)
-        (are 0 (omega arith)) (are 1 (omega arith)) (are 2 (omega arith)) (are 3 (omega arith)) (are 4 (omega arith)) (are 5 (omega arith)) (are 6 (omega arith)) (are 7 (omega arith))
-        (are 8 (omega arith)) (are 9 (omega arith)) (are 10 (omega arith)) (are 11 (omega arith)) (are 12 (omega arith)) (are 13 (omega arith)) (are 14 (omega arith)) (are 15 (omega arith))
+    (slice_index bytes 8) (slice_index bytes 9) (slice_index bytes 10) (slice_index bytes 11) (slice_index bytes 12) (slice_index bytes 13) (slice_index bytes 14) (slice_index bytes 15)
+    (are 0 (omega arith)) (are 1 (omega arith)) (are 2 (omega arith)) (are 3 (omega arith)) (are 4 (omega arith)) (are 5 (omega arith)) (are 6 (omega arith)) (are 7 (omega arith))
+    (are 8 (omega arith)) (are 9 (omega arith)) (are 10 (omega arith)) (are 11 (omega arith)) (are 12 (omega arith)) (are 13 (omega arith)) (are 14 (omega arith)) (are 15 (omega arith))
 
 id_fits : (text : List ℕ) → IfSome (id_of text) (λ id. id < 2 ^ 128)
 unfolding id_of
@@ -130,4 +130,4 @@ takes_anonymous text ok = at_id (id_of text) refl (id_fits text)
         and_from (is_free_text text) (is_printed_if_id text) (bounded word.Anonymous 255 refl text ok) (ap (λ o. option_map_or (λ id. bytes_eq text (printed id)) o true) is)
     at_id (Some id) is fits =
         and_from (is_free_text (printed id)) (is_printed_if_id (printed id)) (printed_is_free id)
-            (ap (λ o. option_map_or (λ other. bytes_eq (printed id) (printed other)) o true) (id_of-printed id fits) ∙ (bytes_eq-Decides (printed id) (printed id)).1 refl)
+        (ap (λ o. option_map_or (λ other. bytes_eq (printed id) (printed other)) o true) (id_of-printed id fits) ∙ (bytes_eq-Decides (printed id) (printed id)).1 refl)

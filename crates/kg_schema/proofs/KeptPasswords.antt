@@ -55,7 +55,7 @@ digits_ok (b ∷ bytes) small =
     let high : b / 16 < 16 = omega arith in
     let low : b % 16 < 16 = omega arith in
     and_from (is_hash_digit (slice_index lower_digits (b / 16))) (is_hash_digit (slice_index lower_digits (b % 16)) && list_all is_hash_digit (encode_lower bytes)) (digit_ok (b / 16) high)
-        (and_from (is_hash_digit (slice_index lower_digits (b % 16))) (list_all is_hash_digit (encode_lower bytes)) (digit_ok (b % 16) low) (digits_ok bytes parts.1))
+    (and_from (is_hash_digit (slice_index lower_digits (b % 16))) (list_all is_hash_digit (encode_lower bytes)) (digit_ok (b % 16) low) (digits_ok bytes parts.1))
 
 -- ---- hashes
 
@@ -65,8 +65,8 @@ twice n m double is = grind (arith, nat_tests)
 hash_of_ok : (message : List ℕ) → is_hash (encode_lower (sha256 message)) ≡ true
 hash_of_ok message =
     and_from (length (encode_lower (sha256 message)) == 64) (list_all is_hash_digit (encode_lower (sha256 message)))
-        (twice (length (encode_lower (sha256 message))) (length (sha256 message)) (length-encode_with lower_digits (sha256 message)) (length-sha256 message))
-        (digits_ok (sha256 message) (sha256_ok message))
+    (twice (length (encode_lower (sha256 message))) (length (sha256 message)) (length-encode_with lower_digits (sha256 message)) (length-sha256 message))
+    (digits_ok (sha256 message) (sha256_ok message))
 
 pub stored_password_ok : (consumer : ℕ) (password : List ℕ) → is_hash (stored_password consumer password) ≡ true
 unfolding stored_password

@@ -77,8 +77,8 @@ values_ok d set ok = at_texts (texts_of d) refl ok
     at_texts None is none = cc
     at_texts (Some texts) is none =
         and_from (is_list_of is_free_text texts) (is_some_set texts)
-            (ap (is_list_of is_free_text) (sym (map-id texts)) ∙ list_ok word.FreeText is_free_text takes_free_text texts none)
-            (texts_of_set d texts set is)
+        (ap (is_list_of is_free_text) (sym (map-id texts)) ∙ list_ok word.FreeText is_free_text takes_free_text texts none)
+        (texts_of_set d texts set is)
 
 abbrev test_made : List ℕ → Data → HeaderTest
 test_made name d = record { name = str_to_ascii_lowercase name; values = unwrap_or (texts_of d) [] }

@@ -152,8 +152,8 @@ each_passes kind test takes (text ∷ texts) some short form =
     let short_parts = or_parts (is_longer kind text) (list_any (is_longer kind) texts) short in
     let form_parts = and_parts (has_form kind text) (list_all (has_form kind) texts) form in
     and_from (test (kept kind text)) (list_all test (map (kept kind) texts))
-        (takes text (breaks_none kind text some_parts.0 short_parts.0 form_parts.0))
-        (each_passes kind test takes texts some_parts.1 short_parts.1 form_parts.1)
+    (takes text (breaks_none kind text some_parts.0 short_parts.0 form_parts.0))
+    (each_passes kind test takes texts some_parts.1 short_parts.1 form_parts.1)
 
 few : (n m : ℕ) → n ≡ m → nat_lt 64 m ≡ false → nat_le n 64 ≡ true
 few n m same short = grind (arith, nat_tests)
@@ -166,8 +166,8 @@ list_ok kind test takes texts ok =
     let all_pass = each_passes kind test takes texts parts.0 short.1 parts.2 in
     let not_many = few (length (map (kept kind) texts)) (length texts) (length-map texts (kept kind)) short.0 in
     and_from (list_all test (map (kept kind) texts) && nat_le (length (map (kept kind) texts)) 64) (are_distinct (map (kept kind) texts))
-        (and_from (list_all test (map (kept kind) texts)) (nat_le (length (map (kept kind) texts)) 64) all_pass not_many)
-        parts.3
+    (and_from (list_all test (map (kept kind) texts)) (nat_le (length (map (kept kind) texts)) 64) all_pass not_many)
+    parts.3
 
 -- the list that a body sets: none is a list too
 pub texts_ok : (kind : Word) (test : List ℕ → Bool) → Takes kind test → (name : List ℕ) (body : Data) → IsTrue (is_list_of test (texts_at kind name body))

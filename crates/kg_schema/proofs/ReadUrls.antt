@@ -105,19 +105,19 @@ url_of_ok url = at_scheme (after_scheme url)
         → IfSome (option_and_then (λ path. Some (address host port path)) (url_path_of (from_first (λ b. b == slash) rest))) IsAddress
     at_path rest host port host_ok port_ok =
         and_then_ok (λ found. IfSome found (λ path. IsTrue (is_normal_path path))) IsAddress (λ path. Some (address host port path)) (url_path_of (from_first (λ b. b == slash) rest)) (url_path_of_ok (from_first (λ b. b == slash) rest))
-            (λ path path_ok. record { host = host_ok; port = port_ok; path = path_ok })
+        (λ path path_ok. record { host = host_ok; port = port_ok; path = path_ok })
 
     at_port : (rest authority host : List ℕ) → IsTrue (is_host host)
         → IfSome (option_and_then (λ port. option_and_then (λ path. Some (address host port path)) (url_path_of (from_first (λ b. b == slash) rest))) (port_of (from_first (λ b. b == colon) authority))) IsAddress
     at_port rest authority host host_ok =
         and_then_ok (λ port. (1 ≤ port) × (port ≤ 65535)) IsAddress (λ port. option_and_then (λ path. Some (address host port path)) (url_path_of (from_first (λ b. b == slash) rest))) (port_of (from_first (λ b. b == colon) authority)) (port_of_ok (from_first (λ b. b == colon) authority))
-            (λ port port_ok. at_path rest host port host_ok port_ok)
+        (λ port port_ok. at_path rest host port host_ok port_ok)
 
     at_host : (rest authority : List ℕ)
         → IfSome (option_and_then (λ host. option_and_then (λ port. option_and_then (λ path. Some (address host port path)) (url_path_of (from_first (λ b. b == slash) rest))) (port_of (from_first (λ b. b == colon) authority))) (host_of (before_first (λ b. b == colon) authority))) IsAddress
     at_host rest authority =
         and_then_ok (λ host. IsTrue (is_host host)) IsAddress (λ host. option_and_then (λ port. option_and_then (λ path. Some (address host port path)) (url_path_of (from_first (λ b. b == slash) rest))) (port_of (from_first (λ b. b == colon) authority))) (host_of (before_first (λ b. b == colon) authority)) (host_of_ok (before_first (λ b. b == colon) authority))
-            (λ host host_ok. at_port rest authority host host_ok)
+        (λ host host_ok. at_port rest authority host host_ok)
 
     at_scheme : (o : Option (List ℕ))
         → IfSome (option_and_then (λ rest. option_and_then (λ host. option_and_then (λ port. option_and_then (λ path. Some (address host port path)) (url_path_of (from_first (λ b. b == slash) rest))) (port_of (from_first (λ b. b == colon) (before_first (λ b. b == slash) rest)))) (host_of (before_first (λ b. b == colon) (before_first (λ b. b == slash) rest)))) o) IsAddress

@@ -85,8 +85,8 @@ cors_ok config before old =
     record {
       origins = list_ok word.FreeText is_free_text takes_free_text (codes "origins") config before.origins old.origins;
       methods = and_from (is_list_of is_method after.methods) (nat_lt 0 (length after.methods))
-        (list_ok word.Method is_method takes_method (codes "methods") config before.methods methods.0)
-        (still_set (texts_at word.Method (codes "methods") config) before.methods methods.1);
+          (list_ok word.Method is_method takes_method (codes "methods") config before.methods methods.0)
+          (still_set (texts_at word.Method (codes "methods") config) before.methods methods.1);
       headers = list_ok word.FreeText is_free_text takes_free_text (codes "headers") config before.headers old.headers;
       exposed_headers = list_ok word.FreeText is_free_text takes_free_text (codes "exposed_headers") config before.exposed_headers old.exposed_headers;
       max_age = or_ok (λ n. n ≤ 1000000000) (whole_at 0 1000000000 (codes "max_age") config) before.max_age (within (whole_at 0 1000000000 (codes "max_age") config) (whole_ok 0 1000000000 (codes "max_age") config)) old.max_age;
@@ -106,8 +106,8 @@ key_auth_ok config before old =
     let after = key_auth_over config before in
     record {
       key_names = and_from (is_list_of is_key_name after.key_names) (nat_lt 0 (length after.key_names))
-        (list_ok word.Token is_key_name takes_key_name (codes "key_names") config before.key_names names.0)
-        (still_set (texts_at word.Token (codes "key_names") config) before.key_names names.1);
+          (list_ok word.Token is_key_name takes_key_name (codes "key_names") config before.key_names names.0)
+          (still_set (texts_at word.Token (codes "key_names") config) before.key_names names.1);
       anonymous = anonymous_ok config before.anonymous old.anonymous;
     }
 
@@ -175,7 +175,7 @@ rate_limiting_ok config before old none =
       hour = limit_ok (codes "hour") config before.hour old.hour;
       day = limit_ok (codes "day") config before.day old.day;
       known = any_known (is_some after.second) (is_some after.minute) (is_some after.hour) (is_some after.day)
-        (not_broken (is_none after.second && is_none after.minute && is_none after.hour && is_none after.day) (codes "config.minute") Required none);
+          (not_broken (is_none after.second && is_none after.minute && is_none after.hour && is_none after.day) (codes "config.minute") Required none);
     }
 
 abbrev edits : List (List ℕ) → List (List ℕ) → Edits

@@ -76,8 +76,8 @@ set_or_before : (name : List ℕ) (body : Data) (before : List ℕ) → OrEmpty 
     → IsFree (unwrap_or (text_at word.FreeText name body) before)
 set_or_before name body before old some =
     filled IsFree (unwrap_or (text_at word.FreeText name body) before)
-        (unwrapped_ok (OrEmpty IsFree) (text_at word.FreeText name body) before (weaker (text_at word.FreeText name body) (text_ok word.FreeText is_free_text takes_free_text name body)) old)
-        some
+    (unwrapped_ok (OrEmpty IsFree) (text_at word.FreeText name body) before (weaker (text_at word.FreeText name body) (text_ok word.FreeText is_free_text takes_free_text name body)) old)
+    some
   where
     weaker : (o : Option (List ℕ)) → IfSome o IsFree → IfSome o (OrEmpty IsFree)
     weaker None ok = tt

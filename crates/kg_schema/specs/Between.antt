@@ -195,8 +195,8 @@ abbrev pub plugin_faults : Data → BaseValue → PluginRow → List Fault
 plugin_faults body base plugin =
     waiting_faults body base
     ++ (if is_none (named_plugin body) && is_none (old_plugin base)
-        then (codes "name", Required) ∷ []
-        else known_plugin_faults plugin)
+    then (codes "name", Required) ∷ []
+    else known_plugin_faults plugin)
 
 -- ---- all rules
 
@@ -221,6 +221,6 @@ faults_between kind body base links strange =
     if is_renamed kind body base
     then (codes "name", Fixed) ∷ []
     else id_faults body base
-      ++ word_faults kind body base
-      ++ strange_faults strange
-      ++ row_faults body base links (row_over kind body base links)
+    ++ word_faults kind body base
+    ++ strange_faults strange
+    ++ row_faults body base links (row_over kind body base links)

@@ -27,6 +27,7 @@ mod valid;
 use crate::base::{Base, Links, ParentField};
 use crate::fault::Faults;
 use crate::fields::named_plugin;
+use crate::form::{Form, FormError};
 use crate::row::consumer::{
     acl_before, acl_over, basic_before, basic_over, consumer_before, consumer_over, key_before,
     key_over, tell_acl, tell_basic, tell_consumer, tell_key,
@@ -36,7 +37,6 @@ use crate::row::route::{route_before, route_over, tell_route};
 use crate::row::service::{service_before, service_over, tell_service};
 use crate::row::tell::tell_if;
 pub use crate::row::valid::finished_rows_are_valid;
-use crate::form::{Form, FormError};
 use crate::rule::Rule;
 use crate::settings::{id_at, text_at};
 use crate::text_rule::text_rule;
@@ -51,7 +51,12 @@ use std::alloc::Global;
 /// row is valid, where an old row is and a word is one that the kind takes.
 ///
 /// `Violation` has exactly the rules between fields that are broken, in byte order of their paths.
-pub fn finish(alloc: Global, form: &Form, base: Base<'_>, links: &Links) -> Result<Entity, FormError>
+pub fn finish(
+    alloc: Global,
+    form: &Form,
+    base: Base<'_>,
+    links: &Links,
+) -> Result<Entity, FormError>
     ensures row { IfOk result (λ row. row ≡ row_over form.now.kind (view form.now.body) (base_of base.entry) links.now) }
     ensures valid { OnOk result (faults_between form.now.kind (view form.now.body) (base_of base.entry) links.now None ≡ []) }
     ensures violation { IfErr result (λ e. Tells e (faults_between form.now.kind (view form.now.body) (base_of base.entry) links.now None)) }
@@ -213,7 +218,12 @@ fn is_renamed(kind: Kind, body: &Value, base: &Base<'_>) -> bool
 }
 
 // Tells an id that is another than the row's.
-fn tell_id(alloc: Global, faults: &mut Faults, body: &Value, base: &Base<'_>) -> Result<(), NoMemory>
+fn tell_id(
+    alloc: Global,
+    faults: &mut Faults,
+    body: &Value,
+    base: &Base<'_>,
+) -> Result<(), NoMemory>
     ensures { OnOk result (faults.new ≡ fold tell faults.old (id_faults (view body.now) (base_of base.now))) }
 {
     let other = match id_at(body) {
@@ -289,7 +299,11 @@ fn word_field(kind: Kind) -> Option<(&'static str, Word)>
     }
 }
 
-fn tell_strange(alloc: Global, faults: &mut Faults, strange: Option<ParentField>) -> Result<(), NoMemory>
+fn tell_strange(
+    alloc: Global,
+    faults: &mut Faults,
+    strange: Option<ParentField>,
+) -> Result<(), NoMemory>
     ensures { OnOk result (faults.new ≡ fold tell faults.old (strange_faults strange)) }
 {
     match strange {
