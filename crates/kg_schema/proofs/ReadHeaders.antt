@@ -1,5 +1,5 @@
 -- What a body sets as headers of a route: valid tests, in byte order of their names.
-use Rattle.std.proofs.Common.{◌≡◌, ℕ, nat_lt, if◌then◌else◌, Bool, true, false, not, ◌&&◌, List, [], ◌∷◌, length, map, Option, Some, None, is_none, is_some, unwrap_or, option_map, option_and_then, codes, All, refl, sym, subst, ap, ◌∙◌, arith}
+use Rattle.std.proofs.Common.{◌≡◌, ℕ, nat_lt, if◌then◌else◌, Bool, true, false, not, ◌&&◌, List, [], ◌∷◌, length, map, Option, Some, None, is_none, unwrap_or, option_map, option_and_then, codes, All, refl, sym, subst, ap, ◌∙◌, arith}
 use Rattle.std.proofs.lemmas.Bool.{and_from, and_parts}
 use Rattle.std.proofs.lemmas.Bool.Decides.{nat_tests}
 use Rattle.std.proofs.lemmas.List.{map-id}
@@ -18,7 +18,7 @@ use Rattle.std.specs.Prelude.{IfSome, IsTrue}
 use Rattle.std.specs.Str.{bytes_eq, str_to_ascii_lowercase}
 use Rattle.std.specs.declared.cmp.Ordering.{Ordering}
 use Rattle.std.specs.declared.cmp.Ordering.TheVariants.{Less, Equal, Greater}
-use Rattle.serde_json.specs.Data.{Data, null, boolean, number, string, array, object, Items, no_items, item, Members, no_members, member}
+use Rattle.serde_json.specs.Data.{Data, null, boolean, number, string, array, object, no_items, item, Members, no_members, member}
 use Rattle.serde_json.specs.Find.{as_object, as_str}
 use Rattle.kg_text.specs.Names.{is_token}
 use Rattle.kg_entities.specs.ValidRows.{IsValidHeaderTest}
@@ -26,11 +26,11 @@ use Rattle.kg_entities.specs.Words.{is_free_text, is_list_of}
 use Rattle.kg_entities.specs.Words.{is_set as is_some_set}
 use Rattle.kg_entities.specs.declared.route.HeaderTest.{HeaderTest}
 use Rattle.kg_schema.proofs.ReadTexts.{list_ok, takes_free_text}
-use Rattle.kg_schema.specs.Judging.{each_text, header_rule, is_header, is_set, list_rule, texts_of, typed, values_rule}
+use Rattle.kg_schema.specs.Judging.{each_text, is_header, is_set, list_rule, texts_of, typed}
 use Rattle.kg_schema.specs.Rules.{sooner}
 use Rattle.kg_schema.specs.Settings.{test_of, tests_at, tests_in, value_at, with_test}
 use Rattle.kg_schema.specs.declared.rule.Rule.{Rule}
-use Rattle.kg_schema.specs.declared.rule.Rule.TheVariants.{Syntax, WrongType}
+use Rattle.kg_schema.specs.declared.rule.Rule.TheVariants.{Syntax}
 use Rattle.kg_schema.specs.declared.shape.Shape.TheVariants as shape
 use Rattle.kg_schema.specs.declared.word.Word.TheVariants as word
 

@@ -10,7 +10,6 @@ use Rattle.serde_json.specs.Find.{as_number, as_u64, as_i64}
 use Rattle.kg_schema.proofs.ReadTexts.{value_ok}
 use Rattle.kg_schema.specs.Judging.{integer_rule, shape_rule, typed, whole_rule}
 use Rattle.kg_schema.specs.Settings.{integer_at, value_at, whole_at}
-use Rattle.kg_schema.specs.declared.rule.Rule.{Rule}
 use Rattle.kg_schema.specs.declared.rule.Rule.TheVariants.{OutOfRange}
 use Rattle.kg_schema.specs.declared.shape.Shape.TheVariants as shape
 

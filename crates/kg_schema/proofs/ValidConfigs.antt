@@ -1,5 +1,5 @@
 -- A finished config is valid.
-use Rattle.std.proofs.Common.{◌≡◌, ℕ, ◌≤◌, ◌==◌, nat_lt, Bool, true, false, not, ◌&&◌, ◌||◌, List, [], ◌∷◌, ◌++◌, length, Option, Some, None, is_none, is_some, unwrap_or, codes, refl, if◌then◌else◌, arith}
+use Rattle.std.proofs.Common.{◌≡◌, ℕ, ◌≤◌, ◌==◌, nat_lt, Bool, true, false, not, ◌&&◌, ◌||◌, List, [], length, Option, Some, None, is_none, is_some, codes, refl, if◌then◌else◌, arith}
 use Rattle.std.proofs.lemmas.Bool.{and_from, and_parts}
 use Rattle.std.proofs.lemmas.Bool.Decides.{nat_tests}
 use Rattle.std.specs.Option.{option_or}
@@ -28,7 +28,7 @@ use Rattle.kg_schema.proofs.ReadNumbers.{whole_ok}
 use Rattle.kg_schema.proofs.ReadTexts.{Takes, takes_block, takes_edit, takes_free_text, takes_header_edit, takes_header_rename, takes_key_name, takes_long_text, takes_method, text_ok, texts_ok}
 use Rattle.kg_schema.proofs.ValidParts.{list_over_ok, neither, not_broken, or_ok, unwrapped_ok}
 use Rattle.kg_schema.specs.Between.{config_faults, fault_if, groups_faults, has_both, has_neither, ip_restriction_faults, rate_limiting_faults, termination_faults}
-use Rattle.kg_schema.specs.FinishedConfigs.{basic_auth_over, config_over, cors_over, default_config, edits_over, groups_over, header_edits_over, ip_restriction_over, key_auth_over, limit_at, rate_limiting_over, request_transformer_over, response_transformer_over, size_limit_over, termination_over}
+use Rattle.kg_schema.specs.FinishedConfigs.{basic_auth_over, config_over, cors_over, default_config, edits_over, groups_over, ip_restriction_over, key_auth_over, limit_at, rate_limiting_over, request_transformer_over, response_transformer_over, size_limit_over, termination_over}
 use Rattle.kg_schema.specs.Settings.{inside, text_at, texts_at, whole_at}
 use Rattle.kg_schema.specs.declared.rule.Rule.TheVariants.{Exclusive, Required}
 use Rattle.kg_schema.specs.declared.word.Word.{Word}

@@ -1,5 +1,5 @@
 -- A finished plugin is valid.
-use Rattle.std.proofs.Common.{◌≡◌, ℕ, Bool, true, false, not, ◌&&◌, ◌||◌, List, [], ◌∷◌, ◌++◌, Option, Some, None, is_none, is_some, unwrap_or, codes, if◌then◌else◌, refl}
+use Rattle.std.proofs.Common.{◌≡◌, Bool, true, false, not, ◌&&◌, ◌||◌, List, [], ◌∷◌, is_none, is_some, unwrap_or, codes, if◌then◌else◌, refl}
 use Rattle.serde_json.specs.Data.{Data}
 use Rattle.kg_entities.specs.ValidRows.{IsValidPlugin, is_for_no_consumer}
 use Rattle.kg_entities.specs.declared.entity.Entity.TheVariants as row

@@ -1,17 +1,14 @@
 -- A finished route is valid.
-use Rattle.std.proofs.Common.{◌≡◌, ℕ, zero, suc, ◌==◌, nat_lt, ℤ, pos, neg_ℤ, Bool, true, false, not, ◌&&◌, ◌||◌, List, [], ◌∷◌, ◌++◌, length, Option, Some, None, unwrap_or, codes, refl, sym, ap, ◌∙◌, arith}
+use Rattle.std.proofs.Common.{◌≡◌, ℕ, zero, suc, ◌==◌, nat_lt, ℤ, pos, neg_ℤ, Bool, true, false, not, ◌&&◌, ◌||◌, List, [], length, codes, refl, arith}
 use Rattle.std.proofs.lemmas.Bool.Decides.{nat_tests}
 use Rattle.std.proofs.lemmas.List.Elements.{All-nil}
-use Rattle.std.specs.Cmp.Lexicographic.{slice_cmp}
 use Rattle.std.specs.List.Sorted.{IsStrictlySortedBy}
-use Rattle.std.specs.Ordering.{nat_cmp}
 use Rattle.std.specs.Prelude.{IfSome, IsTrue, ◌≤ℤ◌}
 use Rattle.serde_json.specs.Data.{Data}
 use Rattle.kg_entities.specs.ValidRows.{IsValidHeaderTest, IsValidRoute}
 use Rattle.kg_entities.specs.Words.{is_kept_route_host, is_list_of, is_method, is_name, is_route_path}
 use Rattle.kg_entities.specs.declared.entity.Entity.TheVariants as row
 use Rattle.kg_entities.specs.declared.entity.Kind.TheVariants as kind
-use Rattle.kg_entities.specs.declared.route.HeaderTest.{HeaderTest}
 use Rattle.kg_entities.specs.declared.route.Route.{Route}
 use Rattle.kg_schema.proofs.KeptHosts.{takes_route_host}
 use Rattle.kg_schema.proofs.ReadHeaders.{AreOrdered, tests_ok}
