@@ -2,3 +2,4 @@ mod IdLemmas
 mod OwnerLemmas
 mod TableLemmas
 mod TextIndexLemmas
+pub mod IdLemmas

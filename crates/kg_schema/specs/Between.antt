@@ -31,6 +31,7 @@ use Rattle.kg_schema.specs.Finished.{row_over}
 use Rattle.kg_schema.specs.Judging.{is_set}
 use Rattle.kg_schema.specs.Rules.{Fault}
 use Rattle.kg_schema.specs.Settings.{text_at, id_at, inside}
+use Rattle.kg_schema.specs.TextRules.{text_rule}
 use Rattle.kg_schema.specs.declared.base.Links.{Links}
 use Rattle.kg_schema.specs.declared.base.ParentField.{ParentField}
 use Rattle.kg_schema.specs.declared.base.ParentField.TheVariants as parent
@@ -66,6 +67,10 @@ word_field kind.KeyCred = Some (codes "key", word.FreeText)
 word_field kind.BasicCred = Some (codes "username", word.FreeText)
 word_field kind.Acl = Some (codes "group", word.FreeText)
 word_field kind.Plugin = None
+
+-- a text by which a row of this kind can be made
+abbrev pub accepts_word : Kind → List ℕ → Bool
+accepts_word kind text = option_map_or (λ field. is_none (text_rule field.1 text)) (word_field kind) false
 
 -- the body says another word than the one by which the row is made
 abbrev pub word_faults : Kind → Data → BaseValue → List Fault
@@ -190,8 +195,8 @@ abbrev pub plugin_faults : Data → BaseValue → PluginRow → List Fault
 plugin_faults body base plugin =
     waiting_faults body base
     ++ (if is_none (named_plugin body) && is_none (old_plugin base)
-        then (codes "name", Required) ∷ []
-        else known_plugin_faults plugin)
+    then (codes "name", Required) ∷ []
+    else known_plugin_faults plugin)
 
 -- ---- all rules
 
@@ -211,11 +216,11 @@ is_renamed _ body base = false
 
 -- the rules between fields that a body breaks over a base, with the rows that it names; `strange` is the
 -- field of its parent, where the body names another one. Of a body that renames a plugin only that is told.
-abbrev pub faults_between : Kind → Data → BaseValue → Links → Option ParentField → List Fault
+unfoldable pub faults_between : Kind → Data → BaseValue → Links → Option ParentField → List Fault
 faults_between kind body base links strange =
     if is_renamed kind body base
     then (codes "name", Fixed) ∷ []
     else id_faults body base
-      ++ word_faults kind body base
-      ++ strange_faults strange
-      ++ row_faults body base links (row_over kind body base links)
+    ++ word_faults kind body base
+    ++ strange_faults strange
+    ++ row_faults body base links (row_over kind body base links)

@@ -219,7 +219,7 @@ plugin_over body links before = record before {
 -- ---- any kind
 
 -- the row of this kind that a body makes over a base, with the rows that it names
-abbrev pub row_over : Kind → Data → BaseValue → Links → Entity
+unfoldable pub row_over : Kind → Data → BaseValue → Links → Entity
 row_over kind.Service body base links = row.Service (service_over body (service_before base (stamps_of base body)))
 row_over kind.Route body base links = row.Route (route_over body links (route_before base (stamps_of base body)))
 row_over kind.Consumer body base links = row.Consumer (consumer_over body (consumer_before base (stamps_of base body)))

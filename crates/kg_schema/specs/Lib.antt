@@ -15,3 +15,4 @@ pub mod ShownParts
 pub mod TextRules
 pub mod UrlParts
 pub mod Urls
+pub mod ValidBases

@@ -33,76 +33,76 @@ unit_text unit.Bytes = codes "bytes"
 
 abbrev pub shown_cors : Cors → Data
 shown_cors config = object_of (
-  (codes "credentials", boolean config.credentials)
-  ∷ (codes "exposed_headers", shown_texts config.exposed_headers)
-  ∷ (codes "headers", shown_texts config.headers)
-  ∷ (codes "max_age", shown_option config.max_age)
-  ∷ (codes "methods", shown_texts config.methods)
-  ∷ (codes "origins", shown_texts config.origins)
-  ∷ (codes "preflight_continue", boolean config.preflight_continue)
-  ∷ [])
+    (codes "credentials", boolean config.credentials)
+    ∷ (codes "exposed_headers", shown_texts config.exposed_headers)
+    ∷ (codes "headers", shown_texts config.headers)
+    ∷ (codes "max_age", shown_option config.max_age)
+    ∷ (codes "methods", shown_texts config.methods)
+    ∷ (codes "origins", shown_texts config.origins)
+    ∷ (codes "preflight_continue", boolean config.preflight_continue)
+    ∷ [])
 
 abbrev pub shown_key_auth : KeyAuth → Data
 shown_key_auth config = object_of (
-  (codes "anonymous", shown_text config.anonymous)
-  ∷ (codes "hide_credentials", boolean config.hide_credentials)
-  ∷ (codes "key_in_header", boolean config.key_in_header)
-  ∷ (codes "key_in_query", boolean config.key_in_query)
-  ∷ (codes "key_names", shown_texts config.key_names)
-  ∷ [])
+    (codes "anonymous", shown_text config.anonymous)
+    ∷ (codes "hide_credentials", boolean config.hide_credentials)
+    ∷ (codes "key_in_header", boolean config.key_in_header)
+    ∷ (codes "key_in_query", boolean config.key_in_query)
+    ∷ (codes "key_names", shown_texts config.key_names)
+    ∷ [])
 
 abbrev pub shown_basic_auth : BasicAuth → Data
 shown_basic_auth config = object_of (
-  (codes "anonymous", shown_text config.anonymous)
-  ∷ (codes "hide_credentials", boolean config.hide_credentials)
-  ∷ [])
+    (codes "anonymous", shown_text config.anonymous)
+    ∷ (codes "hide_credentials", boolean config.hide_credentials)
+    ∷ [])
 
 abbrev pub shown_ip_restriction : IpRestriction → Data
 shown_ip_restriction config = object_of (
-  (codes "allow", shown_texts config.allow)
-  ∷ (codes "deny", shown_texts config.deny)
-  ∷ [])
+    (codes "allow", shown_texts config.allow)
+    ∷ (codes "deny", shown_texts config.deny)
+    ∷ [])
 
 abbrev pub shown_size_limit : SizeLimit → Data
 shown_size_limit config = object_of (
-  (codes "allowed_payload_size", shown_number config.allowed_payload_size)
-  ∷ (codes "size_unit", string (unit_text config.size_unit))
-  ∷ [])
+    (codes "allowed_payload_size", shown_number config.allowed_payload_size)
+    ∷ (codes "size_unit", string (unit_text config.size_unit))
+    ∷ [])
 
 abbrev pub shown_groups : Acl → Data
 shown_groups config = object_of (
-  (codes "allow", shown_texts config.allow)
-  ∷ (codes "deny", shown_texts config.deny)
-  ∷ (codes "hide_groups_header", boolean config.hide_groups_header)
-  ∷ [])
+    (codes "allow", shown_texts config.allow)
+    ∷ (codes "deny", shown_texts config.deny)
+    ∷ (codes "hide_groups_header", boolean config.hide_groups_header)
+    ∷ [])
 
 abbrev pub shown_rate_limiting : RateLimiting → Data
 shown_rate_limiting config = object_of (
-  (codes "day", shown_option config.day)
-  ∷ (codes "hide_client_headers", boolean config.hide_client_headers)
-  ∷ (codes "hour", shown_option config.hour)
-  ∷ (codes "limit_by", string (limit_text config.limit_by))
-  ∷ (codes "minute", shown_option config.minute)
-  ∷ (codes "second", shown_option config.second)
-  ∷ [])
+    (codes "day", shown_option config.day)
+    ∷ (codes "hide_client_headers", boolean config.hide_client_headers)
+    ∷ (codes "hour", shown_option config.hour)
+    ∷ (codes "limit_by", string (limit_text config.limit_by))
+    ∷ (codes "minute", shown_option config.minute)
+    ∷ (codes "second", shown_option config.second)
+    ∷ [])
 
 -- one step of a request's change
 abbrev pub shown_edits : Edits → Data
 shown_edits edits =
     if length edits.headers == 0 && length edits.querystring == 0 then null
     else object_of (
-      (codes "headers", shown_texts edits.headers)
-      ∷ (codes "querystring", shown_texts edits.querystring)
-      ∷ [])
+    (codes "headers", shown_texts edits.headers)
+    ∷ (codes "querystring", shown_texts edits.querystring)
+    ∷ [])
 
 abbrev pub shown_request_transformer : RequestTransformer → Data
 shown_request_transformer config = object_of (
-  (codes "add", shown_edits config.add)
-  ∷ (codes "append", shown_edits config.append)
-  ∷ (codes "remove", shown_edits config.remove)
-  ∷ (codes "rename", shown_edits config.rename)
-  ∷ (codes "replace", shown_edits config.replace)
-  ∷ [])
+    (codes "add", shown_edits config.add)
+    ∷ (codes "append", shown_edits config.append)
+    ∷ (codes "remove", shown_edits config.remove)
+    ∷ (codes "rename", shown_edits config.rename)
+    ∷ (codes "replace", shown_edits config.replace)
+    ∷ [])
 
 -- one step of a reply's change
 abbrev pub shown_header_edits : List (List ℕ) → Data
@@ -112,20 +112,20 @@ shown_header_edits headers =
 
 abbrev pub shown_response_transformer : ResponseTransformer → Data
 shown_response_transformer config = object_of (
-  (codes "add", shown_header_edits config.add)
-  ∷ (codes "append", shown_header_edits config.append)
-  ∷ (codes "remove", shown_header_edits config.remove)
-  ∷ (codes "rename", shown_header_edits config.rename)
-  ∷ (codes "replace", shown_header_edits config.replace)
-  ∷ [])
+    (codes "add", shown_header_edits config.add)
+    ∷ (codes "append", shown_header_edits config.append)
+    ∷ (codes "remove", shown_header_edits config.remove)
+    ∷ (codes "rename", shown_header_edits config.rename)
+    ∷ (codes "replace", shown_header_edits config.replace)
+    ∷ [])
 
 abbrev pub shown_termination : Termination → Data
 shown_termination config = object_of (
-  (codes "body", shown_text config.body)
-  ∷ (codes "content_type", shown_text config.content_type)
-  ∷ (codes "message", shown_text config.message)
-  ∷ (codes "status_code", shown_number config.status_code)
-  ∷ [])
+    (codes "body", shown_text config.body)
+    ∷ (codes "content_type", shown_text config.content_type)
+    ∷ (codes "message", shown_text config.message)
+    ∷ (codes "status_code", shown_number config.status_code)
+    ∷ [])
 
 -- the config as an object
 abbrev pub shown_config : Config → Data

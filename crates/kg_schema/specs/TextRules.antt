@@ -57,10 +57,15 @@ has_form word.HeaderRename text = has_header_rename_form text
 abbrev pub is_longer : Word → List ℕ → Bool
 is_longer kind text = option_map_or (λ most. nat_lt most (length text)) (longest kind) false
 
+-- the rule that an empty text breaks: every fault of a url is one of its syntax
+abbrev pub rule_of_empty : Word → Rule
+rule_of_empty word.Url = Syntax
+rule_of_empty _ = Empty
+
 -- the first rule that a text breaks
 abbrev pub text_rule : Word → List ℕ → Option Rule
 text_rule kind text =
-    if length text == 0 then Some Empty
+    if length text == 0 then Some (rule_of_empty kind)
     else (if is_longer kind text then Some OutOfRange
     else (if has_form kind text then None else Some Syntax))
 

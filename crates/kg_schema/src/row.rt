@@ -5,10 +5,12 @@ ghost use Rattle.std.specs.Prelude.{◌≡◌, [], IfOk, IfErr, OnOk, fold, opti
 ghost use Rattle.std.specs.Str.{bytes_eq};
 ghost use Rattle.serde_json.specs.View.{view};
 ghost use Rattle.kg_schema.specs.Bases.{base_of, given_word};
-ghost use Rattle.kg_schema.specs.Between.{differ, faults_between, id_faults, is_renamed, parent_text, row_faults, strange_faults, word_faults, word_field};
+ghost use Rattle.kg_schema.specs.Between.{accepts_word, differ, faults_between, id_faults, is_renamed, parent_text, row_faults, strange_faults, word_faults, word_field};
 ghost use Rattle.kg_schema.specs.Finished.{row_over};
 ghost use Rattle.kg_schema.specs.Rules.{Tells, tell};
 ghost use Rattle.kg_schema.specs.Settings.{text_at};
+ghost use Rattle.kg_schema.specs.ValidBases.{IsValidBase};
+ghost use Rattle.kg_entities.specs.ValidRows.{IsValidRow};
 
 mod config;
 mod consumer;
@@ -20,10 +22,12 @@ mod route;
 mod service;
 mod set;
 mod tell;
+mod valid;
 
 use crate::base::{Base, Links, ParentField};
 use crate::fault::Faults;
 use crate::fields::named_plugin;
+use crate::form::{Form, FormError};
 use crate::row::consumer::{
     acl_before, acl_over, basic_before, basic_over, consumer_before, consumer_over, key_before,
     key_over, tell_acl, tell_basic, tell_consumer, tell_key,
@@ -32,23 +36,31 @@ use crate::row::plugin::{old_plugin, plugin_before, plugin_over, tell_plugin};
 use crate::row::route::{route_before, route_over, tell_route};
 use crate::row::service::{service_before, service_over, tell_service};
 use crate::row::tell::tell_if;
-use crate::form::{Form, FormError};
+pub use crate::row::valid::finished_rows_are_valid;
 use crate::rule::Rule;
 use crate::settings::{id_at, text_at};
+use crate::text_rule::text_rule;
 use crate::word::Word;
 use kg_entities::{Entity, Kind};
-use kg_text::NoMemory;
+use kg_text::{NoMemory, Text};
 use serde_json::Value;
 use std::alloc::Global;
 
 /// Makes the row of a form: what its body sets, over the old row or over the defaults of its kind,
-/// with the rows that it names. An old row has to be of the form's kind; another counts as none.
+/// with the rows that it names. An old row has to be of the form's kind; another counts as none. The
+/// row is valid, where an old row is and a word is one that the kind takes.
 ///
 /// `Violation` has exactly the rules between fields that are broken, in byte order of their paths.
-pub fn finish(alloc: Global, form: &Form, base: Base<'_>, links: &Links) -> Result<Entity, FormError>
+pub fn finish(
+    alloc: Global,
+    form: &Form,
+    base: Base<'_>,
+    links: &Links,
+) -> Result<Entity, FormError>
     ensures row { IfOk result (λ row. row ≡ row_over form.now.kind (view form.now.body) (base_of base.entry) links.now) }
     ensures valid { OnOk result (faults_between form.now.kind (view form.now.body) (base_of base.entry) links.now None ≡ []) }
     ensures violation { IfErr result (λ e. Tells e (faults_between form.now.kind (view form.now.body) (base_of base.entry) links.now None)) }
+    ensures valid_row { IsValidBase form.now.kind (base_of base.entry) → IfOk result IsValidRow }
 {
     match base {
         Base::New { id, now } => finish_under(alloc, form, &Base::New { id, now }, links, None),
@@ -73,7 +85,6 @@ pub fn finish(alloc: Global, form: &Form, base: Base<'_>, links: &Links) -> Resu
 
 /// As [`finish`], for a row that stands under a parent: `strange` is the field of its parent, where
 /// the body names another one there, which breaks `fixed`.
-#[tactic(auto, using(crate::proofs::RuleLemmas::in_order_none))]
 pub fn finish_under(
     alloc: Global,
     form: &Form,
@@ -84,15 +95,41 @@ pub fn finish_under(
     ensures row { IfOk result (λ row. row ≡ row_over form.now.kind (view form.now.body) (base_of base.now) links.now) }
     ensures valid { OnOk result (faults_between form.now.kind (view form.now.body) (base_of base.now) links.now strange ≡ []) }
     ensures violation { IfErr result (λ e. Tells e (faults_between form.now.kind (view form.now.body) (base_of base.now) links.now strange)) }
+    ensures valid_row { IsValidBase form.now.kind (base_of base.now) → IfOk result IsValidRow }
 {
-    let row = row_over(alloc, form.kind(), form.body(), base, links)?;
-    let faults = faults_between(alloc, form, base, links, strange, &row)?;
+    match row_over(alloc, form.kind(), form.body(), base, links) {
+        Ok(row) => match judge_row(alloc, form, base, links, strange, &row) {
+            Ok(()) => Ok(row),
+            Err(error) => Err(error),
+        },
+        Err(_) => Err(FormError::NoMemory),
+    }
+}
+
+// The rules between the fields that the finished row breaks.
+#[tactic(auto, using(crate::proofs::RuleLemmas::in_order_none))]
+fn judge_row(
+    alloc: Global,
+    form: &Form,
+    base: &Base<'_>,
+    links: &Links,
+    strange: Option<ParentField>,
+    row: &Entity,
+) -> Result<(), FormError>
+    requires { row.now ≡ row_over form.now.kind (view form.now.body) (base_of base.now) links.now }
+    ensures valid { OnOk result (faults_between form.now.kind (view form.now.body) (base_of base.now) links.now strange ≡ []) }
+    ensures violation { IfErr result (λ e. Tells e (faults_between form.now.kind (view form.now.body) (base_of base.now) links.now strange)) }
+    ensures valid_row { IsValidBase form.now.kind (base_of base.now) → OnOk result (IsValidRow row.now) }
+{
+    finished_rows_are_valid();
+    let faults = faults_between(alloc, form, base, links, strange, row)?;
     if faults.is_empty() {
-        return Ok(row);
+        return Ok(());
     }
     Err(FormError::Violation(faults.into_list(alloc)?))
 }
 
+#[tactic(auto, unfolding(crate::specs::Finished::row_over))]
 fn row_over(
     alloc: Global,
     kind: Kind,
@@ -135,6 +172,7 @@ fn row_over(
     }
 }
 
+#[tactic(auto, unfolding(crate::specs::Between::faults_between))]
 fn faults_between(
     alloc: Global,
     form: &Form,
@@ -180,7 +218,12 @@ fn is_renamed(kind: Kind, body: &Value, base: &Base<'_>) -> bool
 }
 
 // Tells an id that is another than the row's.
-fn tell_id(alloc: Global, faults: &mut Faults, body: &Value, base: &Base<'_>) -> Result<(), NoMemory>
+fn tell_id(
+    alloc: Global,
+    faults: &mut Faults,
+    body: &Value,
+    base: &Base<'_>,
+) -> Result<(), NoMemory>
     ensures { OnOk result (faults.new ≡ fold tell faults.old (id_faults (view body.now) (base_of base.now))) }
 {
     let other = match id_at(body) {
@@ -191,6 +234,17 @@ fn tell_id(alloc: Global, faults: &mut Faults, body: &Value, base: &Base<'_>) ->
         None => false,
     };
     tell_if(alloc, faults, other, "id", Rule::Fixed)
+}
+
+/// Whether a row of the kind can be made by this word: the name of a service or a route, the username of
+/// a consumer, the key, username or group of a credential. A plugin has no word.
+pub fn accepts_word(alloc: Global, kind: Kind, word: &Text) -> Result<bool, NoMemory>
+    ensures { IfOk result (λ accepts. accepts ≡ accepts_word kind word.now) }
+{
+    match word_field(kind) {
+        Some((_, spelled)) => Ok(text_rule(alloc, spelled, word.as_str())?.is_none()),
+        None => Ok(false),
+    }
 }
 
 // Tells a word that is another than the one by which the row is made.
@@ -245,7 +299,11 @@ fn word_field(kind: Kind) -> Option<(&'static str, Word)>
     }
 }
 
-fn tell_strange(alloc: Global, faults: &mut Faults, strange: Option<ParentField>) -> Result<(), NoMemory>
+fn tell_strange(
+    alloc: Global,
+    faults: &mut Faults,
+    strange: Option<ParentField>,
+) -> Result<(), NoMemory>
     ensures { OnOk result (faults.new ≡ fold tell faults.old (strange_faults strange)) }
 {
     match strange {

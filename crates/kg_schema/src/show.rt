@@ -58,14 +58,44 @@ fn route_object(alloc: Global, route: &Route) -> Result<Value, AllocError>
     ensures { IfOk result (λ v. view v ≡ shown_route route.now) }
 {
     let mut members = tested_members(alloc, route)?;
-    put(&mut members, alloc, "created_at", Value::from(route.created_at))?;
+    put(
+        &mut members,
+        alloc,
+        "created_at",
+        Value::from(route.created_at),
+    )?;
     put(&mut members, alloc, "id", IdOf(route.id).to_value(alloc)?)?;
-    put(&mut members, alloc, "name", MaybeText(&route.name).to_value(alloc)?)?;
+    put(
+        &mut members,
+        alloc,
+        "name",
+        MaybeText(&route.name).to_value(alloc)?,
+    )?;
     put(&mut members, alloc, "path_handling", "v0".to_value(alloc)?)?;
-    put(&mut members, alloc, "preserve_host", Value::from(route.preserve_host))?;
-    put(&mut members, alloc, "service", Reference(route.service).to_value(alloc)?)?;
-    put(&mut members, alloc, "strip_path", Value::from(route.strip_path))?;
-    put(&mut members, alloc, "updated_at", Value::from(route.updated_at))?;
+    put(
+        &mut members,
+        alloc,
+        "preserve_host",
+        Value::from(route.preserve_host),
+    )?;
+    put(
+        &mut members,
+        alloc,
+        "service",
+        Reference(route.service).to_value(alloc)?,
+    )?;
+    put(
+        &mut members,
+        alloc,
+        "strip_path",
+        Value::from(route.strip_path),
+    )?;
+    put(
+        &mut members,
+        alloc,
+        "updated_at",
+        Value::from(route.updated_at),
+    )?;
     Ok(Value::from(members))
 }
 
@@ -74,12 +104,42 @@ fn tested_members(alloc: Global, route: &Route) -> Result<Map<String, Value>, Al
     ensures { IfOk result (λ members. members_view members.entries ≡ shown_tests route.now) }
 {
     let mut members = Map::new(alloc);
-    put(&mut members, alloc, "headers", HeaderTests(&route.headers).to_value(alloc)?)?;
-    put(&mut members, alloc, "hosts", Texts(&route.hosts).to_value(alloc)?)?;
-    put(&mut members, alloc, "methods", Texts(&route.methods).to_value(alloc)?)?;
-    put(&mut members, alloc, "paths", Texts(&route.paths).to_value(alloc)?)?;
-    put(&mut members, alloc, "protocols", Protocols(route.https).to_value(alloc)?)?;
-    put(&mut members, alloc, "regex_priority", Value::from(route.regex_priority))?;
+    put(
+        &mut members,
+        alloc,
+        "headers",
+        HeaderTests(&route.headers).to_value(alloc)?,
+    )?;
+    put(
+        &mut members,
+        alloc,
+        "hosts",
+        Texts(&route.hosts).to_value(alloc)?,
+    )?;
+    put(
+        &mut members,
+        alloc,
+        "methods",
+        Texts(&route.methods).to_value(alloc)?,
+    )?;
+    put(
+        &mut members,
+        alloc,
+        "paths",
+        Texts(&route.paths).to_value(alloc)?,
+    )?;
+    put(
+        &mut members,
+        alloc,
+        "protocols",
+        Protocols(route.https).to_value(alloc)?,
+    )?;
+    put(
+        &mut members,
+        alloc,
+        "regex_priority",
+        Value::from(route.regex_priority),
+    )?;
     Ok(members)
 }
 

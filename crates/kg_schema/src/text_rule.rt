@@ -29,7 +29,7 @@ pub fn text_rule(alloc: Global, word: Word, text: &str) -> Result<Option<Rule>, 
     ensures { IfOk result (λ rule. rule ≡ text_rule word text.now) }
 {
     if text.is_empty() {
-        return Ok(Some(Rule::Empty));
+        return Ok(Some(word.rule_of_empty()));
     }
     if is_longer(word, text) {
         return Ok(Some(Rule::OutOfRange));

@@ -46,13 +46,23 @@ pub fn consumer_over(alloc: Global, body: &Value, before: Consumer) -> Result<Co
     ensures { IfOk result (λ row. row ≡ consumer_over (view body.now) before) }
 {
     let mut row = before;
-    set_option(&mut row.username, text_at(alloc, Word::Username, "username", body)?);
-    set_option(&mut row.custom_id, text_at(alloc, Word::FreeText, "custom_id", body)?);
+    set_option(
+        &mut row.username,
+        text_at(alloc, Word::Username, "username", body)?,
+    );
+    set_option(
+        &mut row.custom_id,
+        text_at(alloc, Word::FreeText, "custom_id", body)?,
+    );
     Ok(row)
 }
 
 /// Tells the rules between the fields of a consumer.
-pub fn tell_consumer(alloc: Global, faults: &mut Faults, consumer: &Consumer) -> Result<(), NoMemory>
+pub fn tell_consumer(
+    alloc: Global,
+    faults: &mut Faults,
+    consumer: &Consumer,
+) -> Result<(), NoMemory>
     ensures { OnOk result (faults.new ≡ fold tell faults.old (consumer_faults consumer.now)) }
 {
     let unknown = consumer.username.is_none() && consumer.custom_id.is_none();
@@ -75,7 +85,12 @@ pub fn key_before(alloc: Global, base: &Base<'_>, stamps: Stamps) -> Result<KeyC
 }
 
 /// The credential with what the body sets, and with the consumer that it names.
-pub fn key_over(alloc: Global, body: &Value, links: &Links, before: KeyCred) -> Result<KeyCred, NoMemory>
+pub fn key_over(
+    alloc: Global,
+    body: &Value,
+    links: &Links,
+    before: KeyCred,
+) -> Result<KeyCred, NoMemory>
     ensures { IfOk result (λ row. row ≡ key_over (view body.now) links.now before) }
 {
     let mut row = before;
@@ -96,7 +111,13 @@ pub fn tell_key(
 {
     let missing = is_missing(links.consumer, base.key());
     tell_if(alloc, faults, missing, "consumer", Rule::Required)?;
-    tell_if(alloc, faults, credential.key.as_bytes().is_empty(), "key", Rule::Required)
+    tell_if(
+        alloc,
+        faults,
+        credential.key.as_bytes().is_empty(),
+        "key",
+        Rule::Required,
+    )
 }
 
 /// The old credential, or a new one.
@@ -127,7 +148,10 @@ pub fn basic_over(
 {
     let mut row = before;
     set(&mut row.consumer, links.consumer);
-    set(&mut row.username, text_at(alloc, Word::FreeText, "username", body)?);
+    set(
+        &mut row.username,
+        text_at(alloc, Word::FreeText, "username", body)?,
+    );
     match text_at(alloc, Word::FreeText, "password", body)? {
         Some(password) => row.hash = stored_password(alloc, row.consumer, &password)?,
         None => {}
@@ -147,8 +171,20 @@ pub fn tell_basic(
 {
     let missing = is_missing(links.consumer, base.basic());
     tell_if(alloc, faults, missing, "consumer", Rule::Required)?;
-    tell_if(alloc, faults, credential.username.as_bytes().is_empty(), "username", Rule::Required)?;
-    tell_if(alloc, faults, credential.hash.as_bytes().is_empty(), "password", Rule::Required)
+    tell_if(
+        alloc,
+        faults,
+        credential.username.as_bytes().is_empty(),
+        "username",
+        Rule::Required,
+    )?;
+    tell_if(
+        alloc,
+        faults,
+        credential.hash.as_bytes().is_empty(),
+        "password",
+        Rule::Required,
+    )
 }
 
 /// The old membership, or a new one.
@@ -167,12 +203,20 @@ pub fn acl_before(alloc: Global, base: &Base<'_>, stamps: Stamps) -> Result<AclR
 }
 
 /// The membership with what the body sets, and with the consumer that it names.
-pub fn acl_over(alloc: Global, body: &Value, links: &Links, before: AclRow) -> Result<AclRow, NoMemory>
+pub fn acl_over(
+    alloc: Global,
+    body: &Value,
+    links: &Links,
+    before: AclRow,
+) -> Result<AclRow, NoMemory>
     ensures { IfOk result (λ row. row ≡ acl_over (view body.now) links.now before) }
 {
     let mut row = before;
     set(&mut row.consumer, links.consumer);
-    set(&mut row.group, text_at(alloc, Word::FreeText, "group", body)?);
+    set(
+        &mut row.group,
+        text_at(alloc, Word::FreeText, "group", body)?,
+    );
     Ok(row)
 }
 
@@ -188,5 +232,11 @@ pub fn tell_acl(
 {
     let missing = is_missing(links.consumer, base.acl());
     tell_if(alloc, faults, missing, "consumer", Rule::Required)?;
-    tell_if(alloc, faults, membership.group.as_bytes().is_empty(), "group", Rule::Required)
+    tell_if(
+        alloc,
+        faults,
+        membership.group.as_bytes().is_empty(),
+        "group",
+        Rule::Required,
+    )
 }

@@ -42,8 +42,12 @@ pub fn default_config(alloc: Global, name: PluginName) -> Result<Config, NoMemor
             limit_by: LimitBy::Consumer,
             hide_client_headers: false,
         })),
-        PluginName::RequestTransformer => Ok(Config::RequestTransformer(default_request_transformer(alloc))),
-        PluginName::ResponseTransformer => Ok(Config::ResponseTransformer(default_response_transformer(alloc))),
+        PluginName::RequestTransformer => Ok(Config::RequestTransformer(default_request_transformer(
+            alloc,
+        ))),
+        PluginName::ResponseTransformer => Ok(Config::ResponseTransformer(
+            default_response_transformer(alloc),
+        )),
         PluginName::RequestTermination => Ok(Config::RequestTermination(Termination {
             status_code: 503,
             message: None,
@@ -57,8 +61,16 @@ fn default_cors(alloc: Global) -> Result<Cors, NoMemory>
     ensures { IfOk result (λ config. config ≡ default_cors) }
 {
     let mut methods = List::new(alloc);
-    add_texts(alloc, &mut methods, &["GET", "HEAD", "PUT", "PATCH", "POST"])?;
-    add_texts(alloc, &mut methods, &["DELETE", "OPTIONS", "TRACE", "CONNECT"])?;
+    add_texts(
+        alloc,
+        &mut methods,
+        &["GET", "HEAD", "PUT", "PATCH", "POST"],
+    )?;
+    add_texts(
+        alloc,
+        &mut methods,
+        &["DELETE", "OPTIONS", "TRACE", "CONNECT"],
+    )?;
     Ok(Cors {
         origins: List::new(alloc),
         methods,

@@ -20,13 +20,20 @@ use crate::row::tell::tell_if;
 use crate::rule::Rule;
 use crate::settings::flag_at;
 use crate::table::Table;
-use kg_entities::{Acl, Config, IpRestriction, PluginName, PluginRow, RateLimiting, Scope, Termination};
+use kg_entities::{
+    Acl, Config, IpRestriction, PluginName, PluginRow, RateLimiting, Scope, Termination,
+};
 use kg_text::{List, NoMemory, Text, TryClone};
 use serde_json::Value;
 use std::alloc::Global;
 
 /// The old plugin, or a new one with the config that its name has by default.
-pub fn plugin_before(alloc: Global, base: &Base<'_>, stamps: Stamps, body: &Value) -> Result<PluginRow, NoMemory>
+pub fn plugin_before(
+    alloc: Global,
+    base: &Base<'_>,
+    stamps: Stamps,
+    body: &Value,
+) -> Result<PluginRow, NoMemory>
     ensures { IfOk result (λ row. row ≡ plugin_before (base_of base.now) stamps (view body.now)) }
 {
     match base.plugin() {
@@ -46,11 +53,22 @@ pub fn plugin_before(alloc: Global, base: &Base<'_>, stamps: Stamps, body: &Valu
 }
 
 /// The plugin with what the body sets, and with the rows that it names.
-pub fn plugin_over(alloc: Global, body: &Value, links: &Links, before: PluginRow) -> Result<PluginRow, NoMemory>
+pub fn plugin_over(
+    alloc: Global,
+    body: &Value,
+    links: &Links,
+    before: PluginRow,
+) -> Result<PluginRow, NoMemory>
     ensures { IfOk result (λ row. row ≡ plugin_over (view body.now) links.now before) }
 {
     let null = Value::Null;
-    let PluginRow { id, scope, mut enabled, config, created_at } = before;
+    let PluginRow {
+        id,
+        scope,
+        mut enabled,
+        config,
+        created_at,
+    } = before;
     set(&mut enabled, flag_at("enabled", body));
     Ok(PluginRow {
         id,
@@ -100,7 +118,12 @@ pub fn tell_plugin(
     }
 }
 
-fn tell_waiting(alloc: Global, faults: &mut Faults, body: &Value, base: &Base<'_>) -> Result<(), NoMemory>
+fn tell_waiting(
+    alloc: Global,
+    faults: &mut Faults,
+    body: &Value,
+    base: &Base<'_>,
+) -> Result<(), NoMemory>
     ensures { OnOk result (faults.new ≡ fold tell faults.old (waiting_faults (view body.now) (base_of base.now))) }
 {
     match named_plugin(body) {
@@ -112,7 +135,12 @@ fn tell_waiting(alloc: Global, faults: &mut Faults, body: &Value, base: &Base<'_
     }
 }
 
-fn tell_late(alloc: Global, faults: &mut Faults, body: &Value, name: PluginName) -> Result<(), NoMemory>
+fn tell_late(
+    alloc: Global,
+    faults: &mut Faults,
+    body: &Value,
+    name: PluginName,
+) -> Result<(), NoMemory>
     ensures { OnOk result (faults.new ≡ fold tell faults.old (late_faults (inside (codes "config") (view body.now)) name)) }
 {
     let null = Value::Null;
@@ -186,14 +214,22 @@ fn tell_groups(alloc: Global, faults: &mut Faults, config: &Acl) -> Result<(), N
     tell_if(alloc, faults, neither, "config.allow", Rule::Required)
 }
 
-fn tell_ip_restriction(alloc: Global, faults: &mut Faults, config: &IpRestriction) -> Result<(), NoMemory>
+fn tell_ip_restriction(
+    alloc: Global,
+    faults: &mut Faults,
+    config: &IpRestriction,
+) -> Result<(), NoMemory>
     ensures { OnOk result (faults.new ≡ fold tell faults.old (ip_restriction_faults config.now)) }
 {
     let neither = has_neither(&config.allow, &config.deny);
     tell_if(alloc, faults, neither, "config.allow", Rule::Required)
 }
 
-fn tell_rate_limiting(alloc: Global, faults: &mut Faults, config: &RateLimiting) -> Result<(), NoMemory>
+fn tell_rate_limiting(
+    alloc: Global,
+    faults: &mut Faults,
+    config: &RateLimiting,
+) -> Result<(), NoMemory>
     ensures { OnOk result (faults.new ≡ fold tell faults.old (rate_limiting_faults config.now)) }
 {
     let unlimited = config.second.is_none()
@@ -203,7 +239,11 @@ fn tell_rate_limiting(alloc: Global, faults: &mut Faults, config: &RateLimiting)
     tell_if(alloc, faults, unlimited, "config.minute", Rule::Required)
 }
 
-fn tell_termination(alloc: Global, faults: &mut Faults, config: &Termination) -> Result<(), NoMemory>
+fn tell_termination(
+    alloc: Global,
+    faults: &mut Faults,
+    config: &Termination,
+) -> Result<(), NoMemory>
     ensures { OnOk result (faults.new ≡ fold tell faults.old (termination_faults config.now)) }
 {
     let both = config.message.is_some() && config.body.is_some();

@@ -61,11 +61,23 @@ pub fn route_over(
     set_option(&mut row.name, text_at(alloc, Word::Name, "name", body)?);
     set(&mut row.service, links.service);
     set(&mut row.https, https_at(alloc, body)?);
-    set_list(&mut row.methods, texts_at(alloc, Word::Method, "methods", body)?);
-    set_list(&mut row.hosts, texts_at(alloc, Word::RouteHost, "hosts", body)?);
-    set_list(&mut row.paths, texts_at(alloc, Word::RoutePath, "paths", body)?);
+    set_list(
+        &mut row.methods,
+        texts_at(alloc, Word::Method, "methods", body)?,
+    );
+    set_list(
+        &mut row.hosts,
+        texts_at(alloc, Word::RouteHost, "hosts", body)?,
+    );
+    set_list(
+        &mut row.paths,
+        texts_at(alloc, Word::RoutePath, "paths", body)?,
+    );
     set_list(&mut row.headers, tests_at(alloc, body)?);
-    set(&mut row.regex_priority, narrow_signed(integer_at(alloc, -1000000, 1000000, "regex_priority", body)?));
+    set(
+        &mut row.regex_priority,
+        narrow_signed(integer_at(alloc, -1000000, 1000000, "regex_priority", body)?),
+    );
     set(&mut row.strip_path, flag_at("strip_path", body));
     set(&mut row.preserve_host, flag_at("preserve_host", body));
     Ok(row)

@@ -51,7 +51,10 @@ pub fn service_over(alloc: Global, body: &Value, before: Service) -> Result<Serv
 {
     let mut row = address_over(alloc, body, before)?;
     set_option(&mut row.name, text_at(alloc, Word::Name, "name", body)?);
-    set(&mut row.retries, narrow(whole_at(alloc, 0, 32767, "retries", body)?));
+    set(
+        &mut row.retries,
+        narrow(whole_at(alloc, 0, 32767, "retries", body)?),
+    );
     set(&mut row.enabled, flag_at("enabled", body));
     Ok(row)
 }
@@ -69,7 +72,10 @@ fn address_over(alloc: Global, body: &Value, before: Service) -> Result<Service,
         }
         None => {
             set(&mut row.host, text_at(alloc, Word::Host, "host", body)?);
-            set(&mut row.port, narrow(whole_at(alloc, 1, 65535, "port", body)?));
+            set(
+                &mut row.port,
+                narrow(whole_at(alloc, 1, 65535, "port", body)?),
+            );
             set_option(&mut row.path, text_at(alloc, Word::Path, "path", body)?);
         }
     }
@@ -86,7 +92,13 @@ pub fn tell_service(
     ensures { OnOk result (faults.new ≡ fold tell faults.old (service_faults (view body.now) service.now)) }
 {
     tell_if(alloc, faults, doubles_url(body), "url", Rule::Exclusive)?;
-    tell_if(alloc, faults, service.host.as_bytes().is_empty(), "host", Rule::Required)
+    tell_if(
+        alloc,
+        faults,
+        service.host.as_bytes().is_empty(),
+        "host",
+        Rule::Required,
+    )
 }
 
 // Does a url stand beside a part of it?

@@ -2,7 +2,6 @@
 
 ghost use Rattle.std.specs.Prelude.{◌≡◌, IfOk};
 ghost use Rattle.serde_json.specs.View.{view};
-
 ghost use Rattle.kg_schema.specs.ShownConfigs.{limit_text, unit_text, shown_config, shown_cors, shown_key_auth, shown_basic_auth, shown_ip_restriction, shown_size_limit, shown_groups, shown_rate_limiting, shown_request_transformer, shown_response_transformer, shown_termination};
 
 use crate::show::parts::{EditsOf, HeaderEdits, MaybeNumber, MaybeText, Texts};
@@ -124,7 +123,10 @@ fn rate_limiting_object(alloc: Global, config: &RateLimiting) -> Result<Value, A
     })
 }
 
-fn request_transformer_object(alloc: Global, config: &RequestTransformer) -> Result<Value, AllocError>
+fn request_transformer_object(
+    alloc: Global,
+    config: &RequestTransformer,
+) -> Result<Value, AllocError>
     ensures { IfOk result (λ v. view v ≡ shown_request_transformer config.now) }
 {
     json!(in alloc; {
@@ -136,7 +138,10 @@ fn request_transformer_object(alloc: Global, config: &RequestTransformer) -> Res
     })
 }
 
-fn response_transformer_object(alloc: Global, config: &ResponseTransformer) -> Result<Value, AllocError>
+fn response_transformer_object(
+    alloc: Global,
+    config: &ResponseTransformer,
+) -> Result<Value, AllocError>
     ensures { IfOk result (λ v. view v ≡ shown_response_transformer config.now) }
 {
     json!(in alloc; {

@@ -132,7 +132,11 @@ impl ToValue for EditsOf<'_> {
 
     fn to_value(self, alloc: Global) -> Result<Value, AllocError> {
         let EditsOf(edits) = self;
-        edits_value(alloc, edits.headers.as_slice(), edits.querystring.as_slice())
+        edits_value(
+            alloc,
+            edits.headers.as_slice(),
+            edits.querystring.as_slice(),
+        )
     }
 }
 

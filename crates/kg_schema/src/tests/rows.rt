@@ -72,6 +72,7 @@ fn ids_and_urls_are_read_as_texts(rt: HostRuntime) -> Result<(), Fail> {
         (r#"{"id":3}"#, "id: type"),
         (r#"{"url":"http://h"}"#, ""),
         (r#"{"url":"http://h:65535/a"}"#, ""),
+        (r#"{"url":""}"#, "url: syntax"),
         (r#"{"url":"http://h:0"}"#, "url: syntax"),
         (r#"{"url":"http://h:080"}"#, "url: syntax"),
         (r#"{"url":"http://h:65536"}"#, "url: syntax"),

@@ -1,0 +1,147 @@
+-- Finished consumers, credentials and memberships are valid.
+use Rattle.std.proofs.Common.{◌≡◌, inl, inr, ℕ, ◌==◌, Bool, true, false, not, ◌&&◌, ◌||◌, List, [], ◌++◌, length, Option, Some, None, is_none, is_some, unwrap_or, codes, refl}
+use Rattle.std.specs.Option.{option_map_or}
+use Rattle.std.specs.Prelude.{IfSome, IsTrue}
+use Rattle.serde_json.specs.Data.{Data}
+use Rattle.kg_entities.specs.StoredPassword.{stored_password}
+use Rattle.kg_entities.specs.ValidRows.{IsValidAcl, IsValidBasicCred, IsValidConsumer, IsValidKeyCred}
+use Rattle.kg_entities.specs.Words.{is_free_text, is_hash, is_username}
+use Rattle.kg_entities.specs.declared.consumer.Consumer.{Consumer}
+use Rattle.kg_entities.specs.declared.entity.Entity.TheVariants as row
+use Rattle.kg_entities.specs.declared.entity.Kind.TheVariants as kind
+use Rattle.kg_schema.proofs.KeptPasswords.{stored_password_ok}
+use Rattle.kg_schema.proofs.ReadTexts.{takes_accepted, takes_free_text, takes_username, text_ok}
+use Rattle.kg_schema.proofs.ValidParts.{OrEmpty, filled, neither, not_broken, or_ok, unwrapped_ok}
+use Rattle.kg_schema.specs.Bases.{BaseValue, New, Again, Word, Old, acl_of, basic_of, key_of, old_as, stamps_of}
+use Rattle.kg_schema.specs.Between.{acl_faults, basic_faults, consumer_faults, fault_if, is_missing, key_faults}
+use Rattle.kg_schema.specs.Finished.{acl_before, acl_over, basic_before, basic_over, consumer_before, consumer_over, key_before, key_over}
+use Rattle.kg_schema.specs.Settings.{text_at}
+use Rattle.kg_schema.specs.ValidBases.{IsValidBase}
+use Rattle.kg_schema.specs.declared.base.Links.{Links}
+use Rattle.kg_schema.specs.declared.base.Stamps.{Stamps}
+use Rattle.kg_schema.specs.declared.rule.Rule.TheVariants.{Required}
+use Rattle.kg_schema.specs.declared.word.Word.TheVariants as word
+
+abbrev IsFree : List ℕ → Type 0
+IsFree text = IsTrue (is_free_text text)
+
+abbrev IsUsername : List ℕ → Type 0
+IsUsername text = IsTrue (is_username text)
+
+-- ---- consumers
+
+-- what stands in a consumer before a body sets anything
+record AreFields (consumer : Consumer) : Type 0 where
+  username : IfSome consumer.username IsUsername
+  custom_id : IfSome consumer.custom_id IsFree
+
+consumer_before_ok : (base : BaseValue) (stamps : Stamps) → IsValidBase kind.Consumer base → AreFields (consumer_before base stamps)
+consumer_before_ok (New id now) stamps ok = record { username = tt; custom_id = tt }
+consumer_before_ok (Again id created_at now) stamps ok = record { username = tt; custom_id = tt }
+consumer_before_ok (Word id text now) stamps ok = record { username = takes_accepted word.Username is_username takes_username text ok; custom_id = tt }
+consumer_before_ok (Old (row.Consumer old) now) stamps ok = record { username = ok.username; custom_id = ok.custom_id }
+consumer_before_ok (Old old now) stamps ok = record { username = tt; custom_id = tt }
+
+either_known : (a b : Bool) → (not a && not b) ≡ false → (a || b) ≡ true
+either_known true b known = refl
+either_known false true known = refl
+either_known false false known = cc
+
+consumer_over_ok : (body : Data) (before : Consumer) → AreFields before → consumer_faults (consumer_over body before) ≡ [] → IsValidConsumer (consumer_over body before)
+consumer_over_ok body before old none =
+    let after = consumer_over body before in
+    record {
+      username = or_ok IsUsername (text_at word.Username (codes "username") body) before.username (text_ok word.Username is_username takes_username (codes "username") body) old.username;
+      custom_id = or_ok IsFree (text_at word.FreeText (codes "custom_id") body) before.custom_id (text_ok word.FreeText is_free_text takes_free_text (codes "custom_id") body) old.custom_id;
+      known = either_known (is_some after.username) (is_some after.custom_id) (not_broken (is_none after.username && is_none after.custom_id) (codes "username") Required none);
+    }
+
+pub consumer_ok : (body : Data) (base : BaseValue) → IsValidBase kind.Consumer base
+    → consumer_faults (consumer_over body (consumer_before base (stamps_of base body))) ≡ []
+    → IsValidConsumer (consumer_over body (consumer_before base (stamps_of base body)))
+consumer_ok body base ok none =
+    consumer_over_ok body (consumer_before base (stamps_of base body)) (consumer_before_ok base (stamps_of base body) ok) none
+
+-- ---- keys
+
+key_before_ok : (base : BaseValue) (stamps : Stamps) → IsValidBase kind.KeyCred base → OrEmpty IsFree (key_before base stamps).key
+key_before_ok (New id now) stamps ok = inr refl
+key_before_ok (Again id created_at now) stamps ok = inr refl
+key_before_ok (Word id text now) stamps ok = inl (takes_accepted word.FreeText is_free_text takes_free_text text ok)
+key_before_ok (Old (row.KeyCred old) now) stamps ok = inl ok.key
+key_before_ok (Old old now) stamps ok = inr refl
+
+-- a text that is required: the one that a body sets, or the one that stood there
+set_or_before : (name : List ℕ) (body : Data) (before : List ℕ) → OrEmpty IsFree before → (length (unwrap_or (text_at word.FreeText name body) before) == 0) ≡ false
+    → IsFree (unwrap_or (text_at word.FreeText name body) before)
+set_or_before name body before old some =
+    filled IsFree (unwrap_or (text_at word.FreeText name body) before)
+    (unwrapped_ok (OrEmpty IsFree) (text_at word.FreeText name body) before (weaker (text_at word.FreeText name body) (text_ok word.FreeText is_free_text takes_free_text name body)) old)
+    some
+  where
+    weaker : (o : Option (List ℕ)) → IfSome o IsFree → IfSome o (OrEmpty IsFree)
+    weaker None ok = tt
+    weaker (Some text) ok = inl ok
+
+pub key_ok : (body : Data) (base : BaseValue) (links : Links) → IsValidBase kind.KeyCred base
+    → key_faults base links (key_over body links (key_before base (stamps_of base body))) ≡ []
+    → IsValidKeyCred (key_over body links (key_before base (stamps_of base body)))
+key_ok body base links ok none =
+    let before = key_before base (stamps_of base body) in
+    let after = key_over body links before in
+    let told = neither (fault_if (is_missing links.consumer (old_as key_of base)) (codes "consumer") Required) (fault_if (length after.key == 0) (codes "key") Required) none in
+    record { key = set_or_before (codes "key") body before.key (key_before_ok base (stamps_of base body) ok) (not_broken (length after.key == 0) (codes "key") Required told.1) }
+
+-- ---- passwords
+
+basic_username_ok : (base : BaseValue) (stamps : Stamps) → IsValidBase kind.BasicCred base → OrEmpty IsFree (basic_before base stamps).username
+basic_username_ok (New id now) stamps ok = inr refl
+basic_username_ok (Again id created_at now) stamps ok = inr refl
+basic_username_ok (Word id text now) stamps ok = inl (takes_accepted word.FreeText is_free_text takes_free_text text ok)
+basic_username_ok (Old (row.BasicCred old) now) stamps ok = inl ok.username
+basic_username_ok (Old old now) stamps ok = inr refl
+
+abbrev IsHash : List ℕ → Type 0
+IsHash text = IsTrue (is_hash text)
+
+basic_hash_ok : (base : BaseValue) (stamps : Stamps) → IsValidBase kind.BasicCred base → OrEmpty IsHash (basic_before base stamps).hash
+basic_hash_ok (New id now) stamps ok = inr refl
+basic_hash_ok (Again id created_at now) stamps ok = inr refl
+basic_hash_ok (Word id text now) stamps ok = inr refl
+basic_hash_ok (Old (row.BasicCred old) now) stamps ok = inl ok.hash
+basic_hash_ok (Old old now) stamps ok = inr refl
+
+hash_over_ok : (consumer : ℕ) (password : Option (List ℕ)) (before : List ℕ) → OrEmpty IsHash before → OrEmpty IsHash (option_map_or (stored_password consumer) password before)
+hash_over_ok consumer None before old = old
+hash_over_ok consumer (Some password) before old = inl (stored_password_ok consumer password)
+
+pub basic_ok : (body : Data) (base : BaseValue) (links : Links) → IsValidBase kind.BasicCred base
+    → basic_faults base links (basic_over body links (basic_before base (stamps_of base body))) ≡ []
+    → IsValidBasicCred (basic_over body links (basic_before base (stamps_of base body)))
+basic_ok body base links ok none =
+    let before = basic_before base (stamps_of base body) in
+    let after = basic_over body links before in
+    let names = neither (fault_if (is_missing links.consumer (old_as basic_of base)) (codes "consumer") Required ++ fault_if (length after.username == 0) (codes "username") Required) (fault_if (length after.hash == 0) (codes "password") Required) none in
+    let told = neither (fault_if (is_missing links.consumer (old_as basic_of base)) (codes "consumer") Required) (fault_if (length after.username == 0) (codes "username") Required) names.0 in
+    record {
+      username = set_or_before (codes "username") body before.username (basic_username_ok base (stamps_of base body) ok) (not_broken (length after.username == 0) (codes "username") Required told.1);
+      hash = filled IsHash after.hash (hash_over_ok (unwrap_or links.consumer before.consumer) (text_at word.FreeText (codes "password") body) before.hash (basic_hash_ok base (stamps_of base body) ok)) (not_broken (length after.hash == 0) (codes "password") Required names.1);
+    }
+
+-- ---- memberships
+
+acl_before_ok : (base : BaseValue) (stamps : Stamps) → IsValidBase kind.Acl base → OrEmpty IsFree (acl_before base stamps).group
+acl_before_ok (New id now) stamps ok = inr refl
+acl_before_ok (Again id created_at now) stamps ok = inr refl
+acl_before_ok (Word id text now) stamps ok = inl (takes_accepted word.FreeText is_free_text takes_free_text text ok)
+acl_before_ok (Old (row.Acl old) now) stamps ok = inl ok.group
+acl_before_ok (Old old now) stamps ok = inr refl
+
+pub acl_ok : (body : Data) (base : BaseValue) (links : Links) → IsValidBase kind.Acl base
+    → acl_faults base links (acl_over body links (acl_before base (stamps_of base body))) ≡ []
+    → IsValidAcl (acl_over body links (acl_before base (stamps_of base body)))
+acl_ok body base links ok none =
+    let before = acl_before base (stamps_of base body) in
+    let after = acl_over body links before in
+    let told = neither (fault_if (is_missing links.consumer (old_as acl_of base)) (codes "consumer") Required) (fault_if (length after.group == 0) (codes "group") Required) none in
+    record { group = set_or_before (codes "group") body before.group (acl_before_ok base (stamps_of base body) ok) (not_broken (length after.group == 0) (codes "group") Required told.1) }

@@ -1,0 +1,48 @@
+-- A finished row is valid, where its base is.
+use Rattle.std.proofs.Common.{◌≡◌, Bool, true, false, List, [], ◌∷◌, ◌++◌, Option, codes, if◌then◌else◌}
+use Rattle.serde_json.specs.Data.{Data}
+use Rattle.kg_entities.specs.ValidRows.{IsValidRow}
+use Rattle.kg_entities.specs.declared.entity.Kind.{Kind}
+use Rattle.kg_entities.specs.declared.entity.Kind.TheVariants as kind
+use Rattle.kg_schema.proofs.ValidConsumers.{acl_ok, basic_ok, consumer_ok, key_ok}
+use Rattle.kg_schema.proofs.ValidParts.{neither}
+use Rattle.kg_schema.proofs.ValidPlugins.{plugin_ok}
+use Rattle.kg_schema.proofs.ValidRoutes.{route_ok}
+use Rattle.kg_schema.proofs.ValidServices.{service_ok}
+use Rattle.kg_schema.specs.Bases.{BaseValue}
+use Rattle.kg_schema.specs.Between.{faults_between, id_faults, is_renamed, row_faults, strange_faults, word_faults}
+use Rattle.kg_schema.specs.Finished.{row_over}
+use Rattle.kg_schema.specs.Rules.{Fault}
+use Rattle.kg_schema.specs.ValidBases.{IsValidBase}
+use Rattle.kg_schema.specs.declared.base.Links.{Links}
+use Rattle.kg_schema.specs.declared.base.ParentField.{ParentField}
+use Rattle.kg_schema.specs.declared.rule.Rule.TheVariants.{Fixed}
+
+-- nothing is told, so the plugin keeps its name
+not_renamed : (renamed : Bool) (faults : List Fault) → (if renamed then (codes "name", Fixed) ∷ [] else faults) ≡ [] → faults ≡ []
+not_renamed true faults none = cc
+not_renamed false faults none = none
+
+-- nothing is told of the finished row
+row_told : (wanted : Kind) (body : Data) (base : BaseValue) (links : Links) (strange : Option ParentField)
+    → faults_between wanted body base links strange ≡ [] → row_faults body base links (row_over wanted body base links) ≡ []
+unfolding faults_between
+row_told wanted body base links strange none =
+    let row = row_faults body base links (row_over wanted body base links) in
+    let all = not_renamed (is_renamed wanted body base) (id_faults body base ++ word_faults wanted body base ++ strange_faults strange ++ row) none in
+    (neither (id_faults body base ++ word_faults wanted body base ++ strange_faults strange) row all).1
+
+by_kind : (wanted : Kind) (body : Data) (base : BaseValue) (links : Links) → IsValidBase wanted base → row_faults body base links (row_over wanted body base links) ≡ [] → IsValidRow (row_over wanted body base links)
+unfolding row_over
+by_kind kind.Service body base links ok none = service_ok body base ok none
+by_kind kind.Route body base links ok none = route_ok body base links ok none
+by_kind kind.Consumer body base links ok none = consumer_ok body base ok none
+by_kind kind.KeyCred body base links ok none = key_ok body base links ok none
+by_kind kind.BasicCred body base links ok none = basic_ok body base links ok none
+by_kind kind.Acl body base links ok none = acl_ok body base links ok none
+by_kind kind.Plugin body base links ok none = plugin_ok body base links ok none
+
+-- what breaks no rule over a valid base makes a valid row
+pub finished_ok : (wanted : Kind) (body : Data) (base : BaseValue) (links : Links) (strange : Option ParentField)
+    → IsValidBase wanted base → faults_between wanted body base links strange ≡ [] → IsValidRow (row_over wanted body base links)
+finished_ok wanted body base links strange ok none = by_kind wanted body base links ok (row_told wanted body base links strange none)

@@ -1,0 +1,54 @@
+-- A finished plugin is valid.
+use Rattle.std.proofs.Common.{◌≡◌, Bool, true, false, not, ◌&&◌, ◌||◌, List, [], ◌∷◌, is_none, is_some, unwrap_or, codes, if◌then◌else◌, refl}
+use Rattle.serde_json.specs.Data.{Data}
+use Rattle.kg_entities.specs.ValidRows.{IsValidPlugin, is_for_no_consumer}
+use Rattle.kg_entities.specs.declared.entity.Entity.TheVariants as row
+use Rattle.kg_entities.specs.declared.entity.Kind.TheVariants as kind
+use Rattle.kg_entities.specs.declared.plugin.PluginName.TheVariants as plugin
+use Rattle.kg_entities.specs.declared.plugin.PluginRow.{PluginRow}
+use Rattle.kg_schema.proofs.ValidConfigs.{IsConfigBefore, config_ok, default_before, valid_before}
+use Rattle.kg_schema.proofs.ValidParts.{neither, not_broken}
+use Rattle.kg_schema.specs.Bases.{BaseValue, New, Again, Word, Old, stamps_of}
+use Rattle.kg_schema.specs.Between.{config_faults, fault_if, known_plugin_faults, old_plugin, plugin_faults, waiting_faults}
+use Rattle.kg_schema.specs.BrokenRules.{named_plugin}
+use Rattle.kg_schema.specs.Finished.{plugin_before, plugin_over}
+use Rattle.kg_schema.specs.Rules.{Fault}
+use Rattle.kg_schema.specs.Settings.{inside}
+use Rattle.kg_schema.specs.ValidBases.{IsValidBase}
+use Rattle.kg_schema.specs.declared.base.Links.{Links}
+use Rattle.kg_schema.specs.declared.base.Stamps.{Stamps}
+use Rattle.kg_schema.specs.declared.rule.Rule.TheVariants.{Fixed, Required}
+
+before_ok : (base : BaseValue) (stamps : Stamps) (body : Data) → IsValidBase kind.Plugin base → IsConfigBefore (plugin_before base stamps body).config
+before_ok (New id now) stamps body ok = default_before (unwrap_or (named_plugin body) plugin.Cors)
+before_ok (Again id created_at now) stamps body ok = default_before (unwrap_or (named_plugin body) plugin.Cors)
+before_ok (Word id text now) stamps body ok = default_before (unwrap_or (named_plugin body) plugin.Cors)
+before_ok (Old (row.Plugin old) now) stamps body ok = valid_before old.config ok.config
+before_ok (Old old now) stamps body ok = default_before (unwrap_or (named_plugin body) plugin.Cors)
+
+-- where nothing is told of a plugin, its name is known
+known : (nameless : Bool) (faults : List Fault) → (if nameless then (codes "name", Required) ∷ [] else faults) ≡ [] → faults ≡ []
+known true faults none = cc
+known false faults none = none
+
+free : (barred named : Bool) → (barred && named) ≡ false → (not named || not barred) ≡ true
+free true true ok = cc
+free true false ok = refl
+free false true ok = refl
+free false false ok = refl
+
+over_ok : (body : Data) (base : BaseValue) (links : Links) (before : PluginRow) → IsConfigBefore before.config → plugin_faults body base (plugin_over body links before) ≡ [] → IsValidPlugin (plugin_over body links before)
+over_ok body base links before old none =
+    let after = plugin_over body links before in
+    let waited = neither (waiting_faults body base) (if is_none (named_plugin body) && is_none (old_plugin base) then (codes "name", Required) ∷ [] else known_plugin_faults after) none in
+    let all = known (is_none (named_plugin body) && is_none (old_plugin base)) (known_plugin_faults after) waited.1 in
+    let told = neither (fault_if (is_for_no_consumer after.config && is_some after.scope.consumer) (codes "consumer") Fixed) (config_faults after.config) all in
+    record {
+      config = config_ok (inside (codes "config") body) before.config old told.1;
+      consumer = free (is_for_no_consumer after.config) (is_some after.scope.consumer) (not_broken (is_for_no_consumer after.config && is_some after.scope.consumer) (codes "consumer") Fixed told.0);
+    }
+
+pub plugin_ok : (body : Data) (base : BaseValue) (links : Links) → IsValidBase kind.Plugin base
+    → plugin_faults body base (plugin_over body links (plugin_before base (stamps_of base body) body)) ≡ []
+    → IsValidPlugin (plugin_over body links (plugin_before base (stamps_of base body) body))
+plugin_ok body base links ok none = over_ok body base links (plugin_before base (stamps_of base body) body) (before_ok base (stamps_of base body) body ok) none

@@ -1,0 +1,22 @@
+-- Over which bases a body makes a valid row: an old row is valid itself, and a row of the kind can be made
+-- by a word that is given.
+use Rattle.std.specs.Prelude.{◌≡◌, [], Option, IsTrue, ⊤}
+use Rattle.serde_json.specs.Data.{Data}
+use Rattle.kg_entities.specs.ValidRows.{IsValidRow}
+use Rattle.kg_entities.specs.declared.entity.Kind.{Kind}
+use Rattle.kg_schema.specs.Bases.{BaseValue, New, Again, Word, Old}
+use Rattle.kg_schema.specs.Between.{accepts_word, faults_between}
+use Rattle.kg_schema.specs.Finished.{row_over}
+use Rattle.kg_schema.specs.declared.base.Links.{Links}
+use Rattle.kg_schema.specs.declared.base.ParentField.{ParentField}
+
+abbrev pub IsValidBase : Kind → BaseValue → Type 0
+IsValidBase kind (New id now) = ⊤
+IsValidBase kind (Again id created_at now) = ⊤
+IsValidBase kind (Word id word now) = IsTrue (accepts_word kind word)
+IsValidBase kind (Old old now) = IsValidRow old
+
+-- a body that breaks no rule between fields over such a base makes a valid row
+abbrev pub MakesValidRows : Type 0
+MakesValidRows = (kind : Kind) (body : Data) (base : BaseValue) (links : Links) (strange : Option ParentField)
+    → IsValidBase kind base → faults_between kind body base links strange ≡ [] → IsValidRow (row_over kind body base links)
