@@ -1,0 +1,6 @@
+//! The declaration: rows of all kinds as one object of JSON, and the replies to what is refused.
+#![tactic(auto)]
+
+mod refusal;
+
+pub use crate::refusal::refusal_response;
