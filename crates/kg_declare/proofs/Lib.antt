@@ -1,1 +1,3 @@
+mod DeclaredLemmas
+mod FaultLemmas
 mod RefusalLemmas

@@ -1,1 +1,4 @@
+pub mod Faults
 pub mod RefusalBody
+pub mod Rows
+pub mod SeenRows
