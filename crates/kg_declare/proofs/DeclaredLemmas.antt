@@ -137,4 +137,5 @@ module _ (declaration : Members) (own half whole : Lists) (listed_own : AreListe
 
   -- the lists one behind another are all rows
   pub all_rows : joined whole ≡ rows_of declaration
+  unfolding rows_of
   all_rows = rw (services_whole, routes_whole, consumers_whole, keys_whole, logins_whole, acls_whole, plugins_whole)

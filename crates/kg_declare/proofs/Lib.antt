@@ -1,3 +1,4 @@
 mod DeclaredLemmas
 mod FaultLemmas
+mod ProgressLemmas
 mod RefusalLemmas

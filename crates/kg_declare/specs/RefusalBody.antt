@@ -43,10 +43,10 @@ coded_response status code fields text = record {
   body = compact_text (refusal_object code fields text);
 }
 
-abbrev pub violation_response : List Broken → Response
+unfoldable pub violation_response : List Broken → Response
 violation_response broken = coded_response 400 2 (words_of broken) (codes "schema violation")
 
-abbrev pub refusal_response : Refusal → Response
+unfoldable pub refusal_response : Refusal → Response
 refusal_response NotFound = gateway_message 404 (codes "Not found")
 refusal_response (Violation broken) = violation_response broken
 refusal_response (Foreign field present) = coded_response 400 4 (one_word field (presence_word present)) (codes "foreign key violation")

@@ -78,7 +78,7 @@ plugins declaration =
     ++ nested kind.Plugin (codes "plugins") (consumers declaration)
 
 -- all rows in their order, each without its nested lists
-abbrev pub rows_of : Members → List Row
+unfoldable pub rows_of : Members → List Row
 rows_of declaration =
     alone (codes "routes" ∷ codes "plugins" ∷ []) (services declaration)
     ++ alone (codes "plugins" ∷ []) (routes declaration)

@@ -2,7 +2,12 @@
 #![tactic(auto)]
 
 mod declared;
+mod error;
 mod faults;
+mod line;
+mod progress;
 mod refusal;
 
+pub use crate::error::DeclareError;
+pub use crate::line::declare;
 pub use crate::refusal::refusal_response;

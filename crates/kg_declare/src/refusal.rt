@@ -19,6 +19,7 @@ use std::alloc::{AllocError, Global};
 /// at its field or `present` at `routes`, a unique field 409 with `taken` there: these are objects
 /// with a `code`, the `fields`, a `message` and a `name`. What isn't there is 404; a full kind and a
 /// full history are 507.
+#[tactic(auto, unfolding(crate::specs::RefusalBody::refusal_response))]
 pub fn refusal_response(alloc: Global, refusal: &Refusal) -> Result<Response, NoMemory>
     ensures { IfOk result (λ response. response ≡ refusal_response refusal.now) }
 {
@@ -39,7 +40,7 @@ pub fn refusal_response(alloc: Global, refusal: &Refusal) -> Result<Response, No
 }
 
 /// The reply to a body that breaks these rules.
-#[tactic(auto, using(crate::proofs::RefusalLemmas::words_have_no_float))]
+#[tactic(auto, using(crate::proofs::RefusalLemmas::words_have_no_float), unfolding(crate::specs::RefusalBody::violation_response))]
 pub fn violation_response(alloc: Global, broken: &[Broken]) -> Result<Response, NoMemory>
     ensures { IfOk result (λ response. response ≡ violation_response broken.now) }
 {
