@@ -112,19 +112,27 @@ nothing_left (x ∷ xs) none = absurd (omega arith)
 
 -- what isn't read is refused
 pub unread_refused : (line : List ℕ) (now limit : ℕ) (draws : List (List ℕ)) (e : DeclareError) → IsUnread e (declaration_of line) → IsRefusedAt e (outcome line now limit draws) 0
-unfolding (outcome, unread)
+unfolding outcome unread
 unread_refused line now limit draws (error.Refused response) is = rw (is.0, is.1) refl
 unread_refused line now limit draws error.NoMemory is = tt
 
 -- a declaration with faults of its own is refused
-pub faulty_refused : (line : List ℕ) (members : Members) (now limit : ℕ) (draws : List (List ℕ)) (e : DeclareError) → declaration_of line ≡ Some members
-    → TellsFaults e (own_faults members) → IsRefusedAt e (outcome line now limit draws) 0
-unfolding (outcome, declared)
-faulty_refused line members now limit draws (error.Refused response) read told = rw (read, no_faults (own_faults members) told.0, told.1) refl
-faulty_refused line members now limit draws error.NoMemory read told = tt
+pub faulty_refused : (line : List ℕ) (declaration : Members) (now limit : ℕ) (draws : List (List ℕ)) (e : DeclareError) → declaration_of line ≡ Some declaration
+    → TellsFaults e (own_faults declaration) → IsRefusedAt e (outcome line now limit draws) 0
+unfolding outcome declared
+faulty_refused line declaration now limit draws (error.Refused response) read told = rw (read, no_faults (own_faults declaration) told.0, told.1) refl
+faulty_refused line declaration now limit draws error.NoMemory read told = tt
 
 -- another is what becomes of its rows
 pub faultless_inserted : (line : List ℕ) (rows : List Row) (now limit : ℕ) (draws : List (List ℕ)) → Prepares line rows
     → outcome line now limit draws ≡ with_rows draws now limit rows start
-unfolding (outcome, declared)
+unfolding outcome declared
 faultless_inserted line rows now limit draws ready = rw (ready.read, ready.faultless, ready.rows) refl
+
+-- with no rows, and with no ids behind those that were drawn
+pub from_start : (draws : List (List ℕ)) (now limit : ℕ) (rows : List Row) (old : Made) (answer : Result Progress Refused) → progress_at old 0 ≡ start
+    → with_rows (draws ++ []) now limit rows (progress_at old 0) ≡ answer → with_rows draws now limit rows start ≡ answer
+from_start draws now limit rows old answer begun is =
+    ap (with_rows draws now limit rows) (sym begun)
+    ∙ ap (λ all. with_rows all now limit rows (progress_at old 0)) (sym (append-nil draws))
+    ∙ is

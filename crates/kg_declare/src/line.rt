@@ -13,7 +13,6 @@ use crate::error::DeclareError;
 use crate::faults::own_faults;
 use crate::progress::{Made, insert_rows};
 use crate::refusal::violation_response;
-use kg_entities::Rows;
 use kg_message::message;
 use kg_outside::Ids;
 use kg_rows::Command;
@@ -45,10 +44,7 @@ pub fn declare<I: Ids>(
         Ok(rows) => rows,
         Err(e) => return Err(e),
     };
-    let mut made = Made {
-        rows: Rows::new(alloc),
-        commands: List::new(alloc),
-    };
+    let mut made = Made::new(alloc);
     match insert_rows(alloc, rows, &mut made, ids, now, limit) {
         Ok(()) => Ok(made.commands),
         Err(e) => Err(e),

@@ -6,7 +6,7 @@ ghost use Rattle.serde_json.specs.View.{members_view, view};
 ghost use Rattle.kg_rows.specs.Decision.{decision};
 ghost use Rattle.kg_schema.specs.Rules.{tell};
 ghost use Rattle.kg_schema.specs.Settings.{id_at};
-ghost use Rattle.kg_declare.specs.Outcome.{body_faults, decided, id_in_place, parent_in_place, parent_of, row_faults, with_row, with_rows, wrong_faults};
+ghost use Rattle.kg_declare.specs.Outcome.{body_faults, decided, id_in_place, parent_in_place, parent_of, row_faults, start, with_row, with_rows, wrong_faults};
 ghost use Rattle.kg_declare.specs.SeenRows.{seen, seen_all};
 ghost use Rattle.kg_declare.specs.Steps.{Identifies, Leaves, Steps, StepsFromStart, TellsFaults, progress_at};
 
@@ -26,6 +26,18 @@ use std::alloc::Global;
 pub struct Made {
     pub rows: Rows,
     pub commands: List<Command>,
+}
+
+impl Made {
+    /// No rows. It takes no memory.
+    pub fn new(alloc: Global) -> Made
+        ensures { progress_at result 0 ≡ start }
+    {
+        Made {
+            rows: Rows::new(alloc),
+            commands: List::new(alloc),
+        }
+    }
 }
 
 /// Inserts rows one after another, at a time in milliseconds, up to the first that is refused.
