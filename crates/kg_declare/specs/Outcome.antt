@@ -53,11 +53,11 @@ row_faults row = body_faults row.kind (object row.members) row.wrong
 abbrev pub id_in_place : Place → RowLists → Option ℕ
 id_in_place place rows = id_in place.kind
   where
-  id_in : Kind → Option ℕ
-  id_in kind.Service = option_map (λ row. row.id) (slice_get rows.services place.index)
-  id_in kind.Route = option_map (λ row. row.id) (slice_get rows.routes place.index)
-  id_in kind.Consumer = option_map (λ row. row.id) (slice_get rows.consumers place.index)
-  id_in _ = None
+    id_in : Kind → Option ℕ
+    id_in kind.Service = option_map (λ row. row.id) (slice_get rows.services place.index)
+    id_in kind.Route = option_map (λ row. row.id) (slice_get rows.routes place.index)
+    id_in kind.Consumer = option_map (λ row. row.id) (slice_get rows.consumers place.index)
+    id_in _ = None
 
 abbrev pub parent_in_place : RowLists → Place → Option Parent
 parent_in_place rows place = option_map (λ id. record { kind = place.kind; select = Id id }) (id_in_place place rows)

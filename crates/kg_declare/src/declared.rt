@@ -62,8 +62,18 @@ fn own_lists(alloc: Global, declaration: Map<String, Value>) -> Result<Lists, No
         services: listed(alloc, Kind::Service, "services", &mut declaration)?,
         routes: listed(alloc, Kind::Route, "routes", &mut declaration)?,
         consumers: listed(alloc, Kind::Consumer, "consumers", &mut declaration)?,
-        keys: listed(alloc, Kind::KeyCred, "keyauth_credentials", &mut declaration)?,
-        logins: listed(alloc, Kind::BasicCred, "basicauth_credentials", &mut declaration)?,
+        keys: listed(
+            alloc,
+            Kind::KeyCred,
+            "keyauth_credentials",
+            &mut declaration,
+        )?,
+        logins: listed(
+            alloc,
+            Kind::BasicCred,
+            "basicauth_credentials",
+            &mut declaration,
+        )?,
         acls: listed(alloc, Kind::Acl, "acls", &mut declaration)?,
         plugins: listed(alloc, Kind::Plugin, "plugins", &mut declaration)?,
     })

@@ -73,8 +73,13 @@ fn member_rule(name: &str, value: &Value) -> Option<Rule>
     match name {
         "_format_version" => version_rule(value),
         "_transform" | "_info" | "_comment" => None,
-        "services" | "routes" | "consumers" | "keyauth_credentials" | "basicauth_credentials"
-        | "acls" | "plugins" => list_rule(value),
+        "services"
+        | "routes"
+        | "consumers"
+        | "keyauth_credentials"
+        | "basicauth_credentials"
+        | "acls"
+        | "plugins" => list_rule(value),
         _ => Some(Rule::Unknown),
     }
 }
@@ -166,7 +171,10 @@ fn rows_in(alloc: Global, value: Value) -> Result<Option<Vec<Map<String, Value>>
     }
 }
 
-fn each_object(alloc: Global, items: Vec<Value>) -> Result<Option<Vec<Map<String, Value>>>, NoMemory>
+fn each_object(
+    alloc: Global,
+    items: Vec<Value>,
+) -> Result<Option<Vec<Map<String, Value>>>, NoMemory>
     ensures { IfOk result (λ found. option_map (λ rows. map (λ row. members_view row.entries) rows.items) found ≡ each_object (items_view items.items)) }
 {
     let mut rows = Vec::new(alloc);

@@ -11,3 +11,6 @@ mod refusal;
 pub use crate::error::DeclareError;
 pub use crate::line::declare;
 pub use crate::refusal::refusal_response;
+
+#[cfg(test)]
+mod tests;

@@ -80,10 +80,7 @@ fn judge(alloc: Global, declaration: &Map<String, Value>) -> Result<(), DeclareE
         return Ok(());
     }
     let broken = faults.into_list(alloc)?;
-    Err(DeclareError::Refused(violation_response(
-        alloc,
-        broken.as_slice(),
-    )?))
+    Err(DeclareError::Refused(violation_response(alloc, broken.as_slice())?))
 }
 
 // The members of the object on a line.

@@ -144,7 +144,10 @@ fn judged(alloc: Global, kind: Kind, body: &Value, wrong: &[&str]) -> Result<For
     }
     match read_form(alloc, kind, body) {
         Ok(form) => Ok(form),
-        Err(FormError::Violation(broken)) => Err(DeclareError::Refused(violation_response(alloc, broken.as_slice())?)),
+        Err(FormError::Violation(broken)) => Err(DeclareError::Refused(violation_response(
+            alloc,
+            broken.as_slice(),
+        )?)),
         Err(FormError::NoMemory) => Err(DeclareError::NoMemory),
     }
 }

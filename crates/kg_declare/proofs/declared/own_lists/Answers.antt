@@ -23,15 +23,15 @@ returns c =
     record {
       services = c.in_ok-listed.ensures.rows;
       routes = c.in_ok-listed-2.ensures.rows ∙ ap (listed kind.Route (codes "routes")) taken_1
-        ∙ listed_after kind.Route (codes "routes") names_1 all refl;
+          ∙ listed_after kind.Route (codes "routes") names_1 all refl;
       consumers = c.in_ok-listed-3.ensures.rows ∙ ap (listed kind.Consumer (codes "consumers")) taken_2
-        ∙ listed_after kind.Consumer (codes "consumers") names_2 all refl;
+          ∙ listed_after kind.Consumer (codes "consumers") names_2 all refl;
       keys = c.in_ok-listed-4.ensures.rows ∙ ap (listed kind.KeyCred (codes "keyauth_credentials")) taken_3
-        ∙ listed_after kind.KeyCred (codes "keyauth_credentials") names_3 all refl;
+          ∙ listed_after kind.KeyCred (codes "keyauth_credentials") names_3 all refl;
       logins = c.in_ok-listed-5.ensures.rows ∙ ap (listed kind.BasicCred (codes "basicauth_credentials")) taken_4
-        ∙ listed_after kind.BasicCred (codes "basicauth_credentials") names_4 all refl;
+          ∙ listed_after kind.BasicCred (codes "basicauth_credentials") names_4 all refl;
       acls = c.in_ok-listed-6.ensures.rows ∙ ap (listed kind.Acl (codes "acls")) taken_5
-        ∙ listed_after kind.Acl (codes "acls") names_5 all refl;
+          ∙ listed_after kind.Acl (codes "acls") names_5 all refl;
       plugins = c.in_ok-listed-7.ensures.rows ∙ ap (listed kind.Plugin (codes "plugins")) taken_6
-        ∙ listed_after kind.Plugin (codes "plugins") names_6 all refl;
+          ∙ listed_after kind.Plugin (codes "plugins") names_6 all refl;
     }

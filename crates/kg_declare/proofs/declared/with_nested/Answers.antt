@@ -19,10 +19,10 @@ returns c =
       consumers = c.in_ok-consumers-3.ensures.left ∙ ap (map (stripped acl)) both;
       keys = c.in_ok-consumers.ensures.found;
       logins = c.in_ok-consumers-2.ensures.found
-        ∙ ap (λ found. seen_all before.logins.items ++ found)
+          ∙ ap (λ found. seen_all before.logins.items ++ found)
           (ap (nested kind.BasicCred login) keyless ∙ nested_skips kind.BasicCred login key (seen_all before.consumers.items) refl);
       acls = c.in_ok-consumers-3.ensures.found
-        ∙ ap (λ found. seen_all before.acls.items ++ found)
+          ∙ ap (λ found. seen_all before.acls.items ++ found)
           (ap (nested kind.Acl acl) both
           ∙ nested_skips kind.Acl acl login (map (stripped key) (seen_all before.consumers.items)) refl
           ∙ nested_skips kind.Acl acl key (seen_all before.consumers.items) refl);

@@ -19,9 +19,13 @@ returns-in-Ok-insert_rows g c =
     record {
       drawn = drawn;
       moved = c.in-Ok-insert_rows.ensures.moved;
-      answers = (progress_at c.insert_rows.new.made (length drawn),
+      answers = (
+        progress_at c.insert_rows.new.made (length drawn),
         faultless_inserted c.args.line.now rows c.args.now c.args.limit drawn c.in-Ok.ensures.ok
-        ∙ from_start drawn c.args.now c.args.limit rows c.new-made.result _ c.new-made.ensures (c.in-Ok-insert_rows.ensures.leaves []), refl, refl);
+            ∙ from_start drawn c.args.now c.args.limit rows c.new-made.result _ c.new-made.ensures (c.in-Ok-insert_rows.ensures.leaves []),
+        refl,
+        refl,
+      );
     }
 
 pub returns-in-Err-insert_rows : goal.returns-in-Err-insert_rows
@@ -32,8 +36,8 @@ returns-in-Err-insert_rows g c =
       drawn = drawn;
       moved = c.in-Err-insert_rows.ensures.moved;
       answers = refused_later c.in-Err-insert_rows.e (with_rows (drawn ++ []) c.args.now c.args.limit rows (progress_at c.new-made.result 0))
-        (outcome c.args.line.now c.args.now c.args.limit drawn) (length drawn) (length drawn) refl
-        (λ refused is. faultless_inserted c.args.line.now rows c.args.now c.args.limit drawn c.in-Ok.ensures.ok
+          (outcome c.args.line.now c.args.now c.args.limit drawn) (length drawn) (length drawn) refl
+          (λ refused is. faultless_inserted c.args.line.now rows c.args.now c.args.limit drawn c.in-Ok.ensures.ok
           ∙ from_start drawn c.args.now c.args.limit rows c.new-made.result _ c.new-made.ensures is)
-        (c.in-Err-insert_rows.ensures.leaves []);
+          (c.in-Err-insert_rows.ensures.leaves []);
     }

@@ -21,11 +21,11 @@ loop-row-preserved g c =
       drawn = drawn ++ step;
       moved = g.met.I.Ids.draws_on _ _ _ _ _ c.loop-row.invariant.moved c.in-Ok.ensures.moved;
       ahead = λ more.
-        ahead_row drawn step more c.args.now c.args.limit all rest (seen c.in-Some.row) c.args.made.now c.loop-row.made
+          ahead_row drawn step more c.args.now c.args.limit all rest (seen c.in-Some.row) c.args.made.now c.loop-row.made
           (λ more. c.loop-row.invariant.ahead more
-            ∙ ap (λ items. with_rows (drawn ++ more) c.args.now c.args.limit (seen_all items) (progress_at c.loop-row.made (length drawn))) c.in-Some.ensures.steps.0)
+          ∙ ap (λ items. with_rows (drawn ++ more) c.args.now c.args.limit (seen_all items) (progress_at c.loop-row.made (length drawn))) c.in-Some.ensures.steps.0)
           _ (c.in-Ok.ensures.leaves drawn more)
-        ∙ ap (λ count. with_rows (drawn ++ step ++ more) c.args.now c.args.limit rest (progress_at c.insert_row.new.made count)) (sym (length-append drawn step));
+          ∙ ap (λ count. with_rows (drawn ++ step ++ more) c.args.now c.args.limit rest (progress_at c.insert_row.new.made count)) (sym (length-append drawn step));
     }
 
 pub returns-in-Err : goal.returns-in-Err
@@ -38,14 +38,14 @@ returns-in-Err g c =
       drawn = drawn ++ step;
       moved = g.met.I.Ids.draws_on _ _ _ _ _ c.loop-row.invariant.moved c.in-Err.ensures.moved;
       leaves = λ more.
-        refused_later c.in-Err.e
+          refused_later c.in-Err.e
           (with_row (drawn ++ step ++ more) c.args.now c.args.limit (seen c.in-Some.row) (progress_at c.loop-row.made (length drawn)))
           (with_rows (drawn ++ step ++ more) c.args.now c.args.limit all (progress_at c.args.made.now 0))
           (length drawn + length step) (length (drawn ++ step)) (sym (length-append drawn step))
           (λ refused is. ahead_row drawn step more c.args.now c.args.limit all rest (seen c.in-Some.row) c.args.made.now c.loop-row.made
-            (λ more. c.loop-row.invariant.ahead more
-              ∙ ap (λ items. with_rows (drawn ++ more) c.args.now c.args.limit (seen_all items) (progress_at c.loop-row.made (length drawn))) c.in-Some.ensures.steps.0)
-            _ is)
+          (λ more. c.loop-row.invariant.ahead more
+          ∙ ap (λ items. with_rows (drawn ++ more) c.args.now c.args.limit (seen_all items) (progress_at c.loop-row.made (length drawn))) c.in-Some.ensures.steps.0)
+          _ is)
           (c.in-Err.ensures.leaves drawn more);
     }
 
@@ -57,5 +57,5 @@ returns g c =
       drawn = drawn;
       moved = c.loop-row.invariant.moved;
       leaves = λ more. c.loop-row.invariant.ahead more
-        ∙ ap (λ items. with_rows (drawn ++ more) c.args.now c.args.limit (seen_all items) (progress_at c.loop-row.made (length drawn))) none;
+          ∙ ap (λ items. with_rows (drawn ++ more) c.args.now c.args.limit (seen_all items) (progress_at c.loop-row.made (length drawn))) none;
     }
