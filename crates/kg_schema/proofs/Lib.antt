@@ -2,5 +2,5 @@ mod DistinctTexts
 mod InsideLemmas
 mod ItemLemmas
 mod PatternLemmas
-mod RuleLemmas
+pub mod RuleLemmas
 mod TextLemmas

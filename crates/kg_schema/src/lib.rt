@@ -23,7 +23,8 @@ mod url;
 mod word;
 
 pub use crate::base::{Base, Links, ParentField};
-pub use crate::fault::Broken;
+pub use crate::fault::{Broken, Faults};
+pub use crate::fields::field_faults;
 pub use crate::form::{Form, FormError, read_form};
 pub use crate::reference::Reference;
 pub use crate::row::{finish, finish_under};
