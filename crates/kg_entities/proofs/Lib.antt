@@ -1,4 +1,3 @@
-mod IdLemmas
 mod OwnerLemmas
 mod TableLemmas
 mod TextIndexLemmas

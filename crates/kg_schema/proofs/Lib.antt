@@ -10,7 +10,6 @@ mod ReadHeaders
 mod ReadNumbers
 mod ReadTexts
 mod ReadUrls
-mod RuleLemmas
 mod TextLemmas
 mod ValidConfigs
 mod ValidConsumers
@@ -19,3 +18,4 @@ mod ValidParts
 mod ValidPlugins
 mod ValidRoutes
 mod ValidServices
+pub mod RuleLemmas

@@ -23,8 +23,8 @@ mod url;
 mod word;
 
 pub use crate::base::{Base, Links, ParentField};
-pub use crate::fault::Broken;
-pub use crate::fields::members_of_a_faultless_object_are_accepted;
+pub use crate::fault::{Broken, Faults};
+pub use crate::fields::{field_faults, members_of_a_faultless_object_are_accepted};
 pub use crate::form::{Form, FormError, read_form};
 pub use crate::reference::Reference;
 pub use crate::row::{accepts_word, finish, finish_under, finished_rows_are_valid};

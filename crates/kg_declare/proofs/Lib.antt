@@ -1,0 +1,5 @@
+mod DeclaredLemmas
+mod FaultLemmas
+mod LineLemmas
+mod ProgressLemmas
+mod RefusalLemmas

@@ -1,0 +1,138 @@
+-- The rows of a declaration, inserted one after another.
+use Rattle.std.proofs.Common.{◌≡◌, ◌≢◌, ℕ, zero, suc, ◌+◌, ◌==◌, ◌<◌, Bool, true, false, cond, List, [], ◌∷◌, ◌++◌, length, get_or, map, fold, Option, Some, None, Result, Ok, Err, refl, sym, ap, ◌∙◌, append_assoc, length-append, subst, true≢false, arith}
+use Rattle.std.proofs.lemmas.Bool.Decides.{nat_tests}
+use Rattle.std.proofs.lemmas.List.{append-nil}
+use Rattle.serde_json.specs.Data.{Data, Members, object}
+use Rattle.kg_entities.specs.Ids.{drawn_id}
+use Rattle.kg_schema.proofs.RuleLemmas.{in_order_none}
+use Rattle.kg_schema.specs.Rules.{Fault, in_order}
+use Rattle.kg_schema.specs.Settings.{id_at}
+use Rattle.kg_schema.specs.declared.rule.Rule.TheVariants.{WrongType}
+use Rattle.kg_declare.specs.Faults.{own_faults}
+use Rattle.kg_declare.specs.Outcome.{Progress, Refused, declaration_of, declared, outcome, start, unread, next, identified, inserted, row_faults, violated, with_row, with_rows, wrong_faults}
+use Rattle.kg_declare.specs.Rows.{Row}
+use Rattle.kg_declare.specs.Steps.{IsIdOf, IsRefusedAt, IsUnread, Leaves, Prepares, TellsFaults, progress_at}
+use Rattle.kg_declare.specs.declared.error.DeclareError.{DeclareError}
+use Rattle.kg_declare.specs.declared.error.DeclareError.TheVariants as error
+use Rattle.kg_declare.specs.declared.progress.Made.{Made}
+
+-- ---- faults
+
+-- what breaks no rule in the end broke none
+pub none_told : (faults : List Fault) → in_order faults ≡ [] → faults ≡ []
+none_told = in_order_none
+
+cons_is_some : (fault : Fault) (faults : List Fault) → fault ∷ faults ≢ []
+cons_is_some fault faults = λ same. let none : suc (length faults) ≡ 0 = ap length same in absurd (omega arith)
+
+pub wrong_is_a_fault : (faults : List Fault) (wrong : List (List ℕ)) → 0 < length wrong → faults ++ wrong_faults wrong ≢ []
+wrong_is_a_fault faults [] some = absurd (omega arith)
+wrong_is_a_fault [] (name ∷ wrong) some = λ same. cons_is_some (name, WrongType) (wrong_faults wrong) same
+wrong_is_a_fault (fault ∷ faults) (name ∷ wrong) some = λ same. cons_is_some fault (faults ++ wrong_faults (name ∷ wrong)) same
+
+pub no_wrong : (faults : List Fault) → faults ++ wrong_faults [] ≡ faults
+no_wrong faults = append-nil faults
+
+-- ---- one row
+
+no_faults : (faults : List Fault) → faults ≢ [] → (length faults == 0) ≡ false
+no_faults [] some = absurd (some refl)
+no_faults (fault ∷ faults) some = grind (arith, nat_tests)
+
+-- the id behind those that were drawn before
+next_id : (front more : List (List ℕ)) (bytes : List ℕ) → get_or (front ++ bytes ∷ [] ++ more) (length front) [] ≡ bytes
+next_id [] more bytes = refl
+next_id (first ∷ front) more bytes = next_id front more bytes
+
+pub nothing_more : (n : ℕ) → n ≡ n + 0
+nothing_more n = omega arith
+
+one_more : (n : ℕ) → n + 1 ≡ suc n
+one_more n = omega arith
+
+identified_as : (front drawn more : List (List ℕ)) (now limit : ℕ) (row : Row) (old : Made) (set : Option ℕ) (id : ℕ) → IsIdOf set drawn id
+    → identified (front ++ drawn ++ more) now limit row set (progress_at old (length front))
+    ≡ inserted now limit row id (length front + length drawn) (progress_at old (length front))
+identified_as front drawn more now limit row old (Some set) id is =
+    let n : length front + length drawn ≡ length front = ap (λ ids. length front + length ids) is.0 ∙ omega arith in
+    rw (n, is.1) refl
+identified_as front drawn more now limit row old None id is =
+    let bytes = is.0 in
+    let n : length front + length drawn ≡ suc (length front) = ap (λ ids. length front + length ids) is.1 ∙ one_more (length front) in
+    rw (n, is.1, is.2, next_id front more bytes) refl
+
+-- a row without faults is inserted with its id
+pub row_step : (front drawn more : List (List ℕ)) (now limit : ℕ) (row : Row) (old : Made) (id : ℕ) → row_faults row ≡ []
+    → IsIdOf (id_at (object row.members)) drawn id
+    → with_row (front ++ drawn ++ more) now limit row (progress_at old (length front))
+    ≡ inserted now limit row id (length front + length drawn) (progress_at old (length front))
+unfolding with_row
+row_step front drawn more now limit row old id none is = rw none (identified_as front drawn more now limit row old (id_at (object row.members)) id is)
+
+-- a row with faults is refused
+pub row_refused : (draws : List (List ℕ)) (now limit : ℕ) (row : Row) (progress : Progress) (e : DeclareError) → TellsFaults e (row_faults row)
+    → IsRefusedAt e (with_row draws now limit row progress) progress.drawn
+unfolding with_row
+row_refused draws now limit row progress (error.Refused response) told = rw (no_faults (row_faults row) told.0, told.1) refl
+row_refused draws now limit row progress error.NoMemory told = tt
+
+-- ---- rows
+
+-- what was inserted so far, and what is ahead
+pub record SoFar {S : Type 0} (draws : S → S → List (List ℕ) → Type 0) (before after : S) (old new : Made) (now limit : ℕ) (all rest : List Row) : Type 0 where
+  pub drawn : List (List ℕ)
+  pub moved : draws before after drawn
+  pub ahead : (more : List (List ℕ)) → with_rows (drawn ++ more) now limit all (progress_at old 0) ≡ with_rows (drawn ++ more) now limit rest (progress_at new (length drawn))
+
+pub nothing_ahead_yet : {S : Type 0} (draws : S → S → List (List ℕ) → Type 0) (before : S) (made : Made) (now limit : ℕ) (all : List Row) → draws before before [] → SoFar draws before before made made now limit all all
+nothing_ahead_yet draws before made now limit all none = record { drawn = []; moved = none; ahead = λ more. refl }
+
+-- one row more
+pub ahead_row : (drawn step more : List (List ℕ)) (now limit : ℕ) (all rest : List Row) (row : Row) (old new : Made)
+    → ((more : List (List ℕ)) → with_rows (drawn ++ more) now limit all (progress_at old 0) ≡ with_rows (drawn ++ more) now limit (row ∷ rest) (progress_at new (length drawn)))
+    → (answer : Result Progress Refused) → with_row (drawn ++ step ++ more) now limit row (progress_at new (length drawn)) ≡ answer
+    → with_rows (drawn ++ step ++ more) now limit all (progress_at old 0) ≡ next (with_rows (drawn ++ step ++ more) now limit rest) answer
+ahead_row drawn step more now limit all rest row old new ahead answer is =
+    ap (λ draws. with_rows draws now limit all (progress_at old 0)) (append_assoc drawn step more)
+    ∙ ahead (step ++ more)
+    ∙ ap (λ draws. with_rows draws now limit (row ∷ rest) (progress_at new (length drawn))) (sym (append_assoc drawn step more))
+    ∙ ap (next (with_rows (drawn ++ step ++ more) now limit rest)) is
+
+-- a refusal of a part is one of the whole
+pub refused_later : (e : DeclareError) (part whole : Result Progress Refused) (n m : ℕ) → n ≡ m → ((refused : Refused) → part ≡ Err refused → whole ≡ Err refused)
+    → IsRefusedAt e part n → IsRefusedAt e whole m
+refused_later (error.Refused response) part whole n m same later is = subst (λ drawn. whole ≡ Err (record { response = response; drawn = drawn })) same (later (record { response = response; drawn = n }) is)
+refused_later error.NoMemory part whole n m same later is = tt
+
+pub nothing_left : {A : Type 0} (xs : List A) → length xs ≡ 0 → xs ≡ []
+nothing_left [] none = refl
+nothing_left (x ∷ xs) none = absurd (omega arith)
+
+-- ---- the declaration
+
+-- what isn't read is refused
+pub unread_refused : (line : List ℕ) (now limit : ℕ) (draws : List (List ℕ)) (e : DeclareError) → IsUnread e (declaration_of line) → IsRefusedAt e (outcome line now limit draws) 0
+unfolding outcome unread
+unread_refused line now limit draws (error.Refused response) is = rw (is.0, is.1) refl
+unread_refused line now limit draws error.NoMemory is = tt
+
+-- a declaration with faults of its own is refused
+pub faulty_refused : (line : List ℕ) (declaration : Members) (now limit : ℕ) (draws : List (List ℕ)) (e : DeclareError) → declaration_of line ≡ Some declaration
+    → TellsFaults e (own_faults declaration) → IsRefusedAt e (outcome line now limit draws) 0
+unfolding outcome declared
+faulty_refused line declaration now limit draws (error.Refused response) read told = rw (read, no_faults (own_faults declaration) told.0, told.1) refl
+faulty_refused line declaration now limit draws error.NoMemory read told = tt
+
+-- another is what becomes of its rows
+pub faultless_inserted : (line : List ℕ) (rows : List Row) (now limit : ℕ) (draws : List (List ℕ)) → Prepares line rows
+    → outcome line now limit draws ≡ with_rows draws now limit rows start
+unfolding outcome declared
+faultless_inserted line rows now limit draws ready = rw (ready.read, ready.faultless, ready.rows) refl
+
+-- with no rows, and with no ids behind those that were drawn
+pub from_start : (draws : List (List ℕ)) (now limit : ℕ) (rows : List Row) (old : Made) (answer : Result Progress Refused) → progress_at old 0 ≡ start
+    → with_rows (draws ++ []) now limit rows (progress_at old 0) ≡ answer → with_rows draws now limit rows start ≡ answer
+from_start draws now limit rows old answer begun is =
+    ap (with_rows draws now limit rows) (sym begun)
+    ∙ ap (λ all. with_rows all now limit rows (progress_at old 0)) (sym (append-nil draws))
+    ∙ is

@@ -1,0 +1,40 @@
+use Rattle.std.proofs.Common.{◌≡◌, ◌+◌, [], ◌++◌, length, ◌∙◌, sym, ap, subst}
+use Rattle.serde_json.specs.Data.{object}
+use Rattle.serde_json.specs.View.{members_view}
+use Rattle.kg_schema.specs.Settings.{id_at}
+use Rattle.kg_rows.specs.Decision.{insertion}
+use Rattle.kg_declare.specs.Outcome.{decided, with_row}
+use Rattle.kg_declare.specs.SeenRows.{seen}
+use Rattle.kg_declare.specs.Steps.{IsIdOf, IsRefusedAt, Leaves, progress_at}
+use Rattle.kg_declare.proofs.ProgressLemmas.{nothing_more, row_refused, row_step}
+use Rattle.kg_declare.proofs.progress.insert_row.Goals as goal
+
+pub returns-in-Ok : goal.returns-in-Ok
+returns-in-Ok g c =
+    let drawn = c.id_of-id.ensures.drawn in
+    let row = seen c.args.row in
+    record {
+      drawn = drawn;
+      moved = c.id_of-id.ensures.moved;
+      leaves = λ front more.
+          subst (λ meant. Leaves c.insert.result meant c.insert.new.made (length front + length drawn))
+          (ap (λ parent. decided (progress_at c.args.made.now (length front)) (length front + length drawn)
+          (insertion c.args.made.now.rows row.kind parent (object row.members) c.id_of-id.result c.args.now c.args.limit)) c.parent_of-parent.ensures
+          ∙ sym (row_step front drawn more c.args.now c.args.limit row c.args.made.now c.id_of-id.result c.in-Ok.ensures.valid
+          (subst (λ body. IsIdOf (id_at body) drawn c.id_of-id.result) c.in-Ok.ensures.body c.id_of-id.ensures.is)))
+          (subst (λ body. Leaves c.insert.result (decided (progress_at c.args.made.now (length front)) (length front + length drawn)
+          (insertion c.args.made.now.rows row.kind c.parent_of-parent.result body c.id_of-id.result c.args.now c.args.limit)) c.insert.new.made (length front + length drawn))
+          c.in-Ok.ensures.body (c.insert.ensures (length front) (length front + length drawn)));
+    }
+
+pub returns-in-Err : goal.returns-in-Err
+returns-in-Err g c = record {
+  drawn = [];
+  moved = g.met.I.Ids.draws_none c.args.ids.now;
+  leaves = λ front more.
+      let draws = front ++ [] ++ more in
+      let row = seen c.args.row in
+      let progress = progress_at c.args.made.now (length front) in
+      subst (IsRefusedAt c.in-Err.e (with_row draws c.args.now c.args.limit row progress)) (nothing_more (length front))
+      (row_refused draws c.args.now c.args.limit row progress c.in-Err.e c.in-Err.ensures.violation);
+}

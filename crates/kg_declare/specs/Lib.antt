@@ -1,0 +1,6 @@
+pub mod Faults
+pub mod Outcome
+pub mod RefusalBody
+pub mod Rows
+pub mod SeenRows
+pub mod Steps

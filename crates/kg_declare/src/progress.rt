@@ -1,0 +1,210 @@
+//! The rows of a declaration, inserted one after another.
+
+ghost use Rattle.std.specs.Prelude.{◌≡◌, [], ℕ, ◌<◌, IfErr, IfOk, OnOk, fold, length, map};
+ghost use Rattle.serde_json.specs.Data.{object};
+ghost use Rattle.serde_json.specs.View.{members_view, view};
+ghost use Rattle.kg_rows.specs.Decision.{decision};
+ghost use Rattle.kg_schema.specs.Rules.{tell};
+ghost use Rattle.kg_schema.specs.Settings.{id_at};
+ghost use Rattle.kg_declare.specs.Outcome.{body_faults, decided, id_in_place, parent_in_place, parent_of, row_faults, start, with_row, with_rows, wrong_faults};
+ghost use Rattle.kg_declare.specs.SeenRows.{seen, seen_all};
+ghost use Rattle.kg_declare.specs.Steps.{Identifies, Leaves, Steps, StepsFromStart, TellsFaults, progress_at};
+
+use crate::declared::{Declared, Place};
+use crate::error::DeclareError;
+use crate::refusal::{refusal_response, violation_response};
+use kg_entities::{Id, Kind, Rows};
+use kg_outside::Ids;
+use kg_rows::{Command, DecideError, Draft, Parent, Select, apply, decide};
+use kg_schema::{Faults, Form, FormError, Rule, field_faults, read_form};
+use kg_text::{List, NoMemory, Text};
+use serde_json::Value;
+use std::alloc::Global;
+
+/// The rows so far, and the commands that made them.
+#[derive(Drop)]
+pub struct Made {
+    pub rows: Rows,
+    pub commands: List<Command>,
+}
+
+impl Made {
+    /// No rows. It takes no memory.
+    pub fn new(alloc: Global) -> Made
+        ensures { progress_at result 0 ≡ start }
+    {
+        Made {
+            rows: Rows::new(alloc),
+            commands: List::new(alloc),
+        }
+    }
+}
+
+/// Inserts rows one after another, at a time in milliseconds, up to the first that is refused.
+pub fn insert_rows<I: Ids>(
+    alloc: Global,
+    rows: Vec<Declared>,
+    made: &mut Made,
+    ids: &mut I,
+    now: u64,
+    limit: u32,
+) -> Result<(), DeclareError>
+    ensures { StepsFromStart I.draws ids.old ids.new result made.old made.new (λ draws. with_rows draws now limit (seen_all rows.items)) }
+{
+    for row in rows {
+        match insert_row(alloc, row, made, ids, now, limit) {
+            Ok(()) => {}
+            Err(e) => return Err(e),
+        }
+    }
+    Ok(())
+}
+
+fn insert_row<I: Ids>(
+    alloc: Global,
+    row: Declared,
+    made: &mut Made,
+    ids: &mut I,
+    now: u64,
+    limit: u32,
+) -> Result<(), DeclareError>
+    ensures { Steps I.draws ids.old ids.new result made.old made.new (λ draws. with_row draws now limit (seen row)) }
+{
+    let kind = row.kind;
+    let parent = parent_of(&made.rows, row.parent);
+    match form_of(alloc, row) {
+        Ok(form) => {
+            let id = id_of(&form, ids);
+            let draft = Draft::Insert {
+                kind,
+                parent,
+                form,
+                id,
+                now,
+            };
+            insert(alloc, &draft, made, limit)
+        }
+        Err(e) => Err(e),
+    }
+}
+
+// What the draft's command makes of the rows.
+fn insert(alloc: Global, draft: &Draft, made: &mut Made, limit: u32) -> Result<(), DeclareError>
+    ensures { (before drawn : ℕ) → Leaves result (decided (progress_at made.old before) drawn (decision made.old.rows draft.now limit)) made.new drawn }
+{
+    match decide(alloc, &made.rows, draft, limit) {
+        Ok(command) => {
+            apply(alloc, &mut made.rows, &command)?;
+            made.commands.push(command)?;
+            Ok(())
+        }
+        Err(DecideError::Refused(refusal)) => {
+            Err(DeclareError::Refused(refusal_response(alloc, &refusal)?))
+        }
+        Err(DecideError::NoMemory) => Err(DeclareError::NoMemory),
+    }
+}
+
+// The id that a body sets, and else one that is drawn.
+fn id_of<I: Ids>(form: &Form, ids: &mut I) -> Id
+    ensures { Identifies I.draws ids.old ids.new (id_at (view form.now.body)) result }
+{
+    match form.id() {
+        Some(id) => id,
+        None => Id::from_drawn(ids.draw()),
+    }
+}
+
+// The row's body, if it breaks no rule of a field.
+#[tactic(auto, unfolding(crate::specs::Outcome::row_faults))]
+fn form_of(alloc: Global, row: Declared) -> Result<Form, DeclareError>
+    ensures kind { IfOk result (λ form. form.kind ≡ row.kind) }
+    ensures body { IfOk result (λ form. view form.body ≡ object (members_view row.members.entries)) }
+    ensures valid { OnOk result (row_faults (seen row) ≡ []) }
+    ensures violation { IfErr result (λ e. TellsFaults e (row_faults (seen row))) }
+{
+    let Declared {
+        kind,
+        members,
+        wrong,
+        ..
+    } = row;
+    judged(alloc, kind, &Value::from(members), wrong.as_slice())
+}
+
+#[tactic(auto, using(crate::proofs::ProgressLemmas::no_wrong))]
+fn judged(alloc: Global, kind: Kind, body: &Value, wrong: &[&str]) -> Result<Form, DeclareError>
+    ensures kind { IfOk result (λ form. form.kind ≡ kind) }
+    ensures body { IfOk result (λ form. view form.body ≡ view body.now) }
+    ensures valid { OnOk result (body_faults kind (view body.now) (map (λ name. name.now) wrong.now) ≡ []) }
+    ensures violation { IfErr result (λ e. TellsFaults e (body_faults kind (view body.now) (map (λ name. name.now) wrong.now))) }
+{
+    if !wrong.is_empty() {
+        return Err(told(alloc, kind, body, wrong)?);
+    }
+    match read_form(alloc, kind, body) {
+        Ok(form) => Ok(form),
+        Err(FormError::Violation(broken)) => Err(DeclareError::Refused(violation_response(
+            alloc,
+            broken.as_slice(),
+        )?)),
+        Err(FormError::NoMemory) => Err(DeclareError::NoMemory),
+    }
+}
+
+// The refusal of a body some of whose nested lists aren't lists of objects.
+#[tactic(auto, using(crate::proofs::ProgressLemmas::wrong_is_a_fault))]
+fn told(alloc: Global, kind: Kind, body: &Value, wrong: &[&str]) -> Result<DeclareError, NoMemory>
+    requires { 0 < length wrong.now }
+    ensures { IfOk result (λ e. TellsFaults e (body_faults kind (view body.now) (map (λ name. name.now) wrong.now))) }
+{
+    let mut faults = field_faults(alloc, kind, body)?;
+    tell_wrong(alloc, wrong, &mut faults)?;
+    let broken = faults.into_list(alloc)?;
+    Ok(DeclareError::Refused(violation_response(alloc, broken.as_slice())?))
+}
+
+fn tell_wrong(alloc: Global, wrong: &[&str], faults: &mut Faults) -> Result<(), NoMemory>
+    ensures { OnOk result (faults.new ≡ fold tell faults.old (wrong_faults (map (λ name. name.now) wrong.now))) }
+{
+    for name in wrong {
+        faults.tell(Text::from_str(alloc, name)?, Rule::WrongType)?;
+    }
+    Ok(())
+}
+
+// The row at a place, as the parent of another.
+fn parent_of(rows: &Rows, place: Option<Place>) -> Option<Parent>
+    ensures { result ≡ parent_of rows.now place }
+{
+    match place {
+        Some(place) => parent_in_place(rows, place),
+        None => None,
+    }
+}
+
+fn parent_in_place(rows: &Rows, place: Place) -> Option<Parent>
+    ensures { result ≡ parent_in_place rows.now place }
+{
+    match id_in_place(rows, place) {
+        Some(id) => Some(Parent {
+            kind: place.kind,
+            select: Select::Id(id),
+        }),
+        None => None,
+    }
+}
+
+fn id_in_place(rows: &Rows, place: Place) -> Option<Id>
+    ensures { result ≡ id_in_place place rows.now }
+{
+    match place.kind {
+        Kind::Service => Some(rows.services().as_slice().get(place.index)?.id),
+        Kind::Route => Some(rows.routes().as_slice().get(place.index)?.id),
+        Kind::Consumer => Some(rows.consumers().as_slice().get(place.index)?.id),
+        Kind::KeyCred => None,
+        Kind::BasicCred => None,
+        Kind::Acl => None,
+        Kind::Plugin => None,
+    }
+}

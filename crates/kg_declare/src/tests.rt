@@ -1,0 +1,122 @@
+//! Declarations that are refused, and the ids that accepted ones draw.
+
+use crate::error::DeclareError;
+use crate::line::declare;
+use crate::refusal::refusal_response;
+use kg_entities::{Entity, Id};
+use kg_message::Response;
+use kg_outside::CountIds;
+use kg_rows::{Command, Refusal};
+use kg_schema::{Broken, Rule};
+use kg_text::{List, Text};
+use std::alloc::Global;
+use std::str::from_utf8;
+use std::test::Fail;
+
+const LIMIT: u32 = 100_000;
+
+// The body of a reply.
+fn body_of(alloc: Global, response: &Response) -> Result<String, Fail> {
+    let body = from_utf8(response.body.as_slice()).ok().ok_or("UTF-8")?;
+    Ok(String::from_str(alloc, body)?)
+}
+
+// The body of the refusal of a line.
+fn refused(alloc: Global, line: &str) -> Result<String, Fail> {
+    match declare(alloc, line.as_bytes(), &mut CountIds::new(), 0, LIMIT) {
+        Ok(_) => Ok(String::from_str(alloc, "accepted")?),
+        Err(DeclareError::Refused(response)) => body_of(alloc, &response),
+        Err(DeclareError::NoMemory) => Ok(String::from_str(alloc, "no memory")?),
+    }
+}
+
+#[test]
+fn the_version_of_the_format_is_judged(rt: HostRuntime) -> Result<(), Fail> {
+    for (line, word) in [
+        (r#"{"_format_version":"9.9"}"#, "one of"),
+        (r#"{"_format_version":3.0}"#, "type"),
+        (r#"{"_format_version":[]}"#, "type"),
+        (r#"{"_format_version":null}"#, "required"),
+        ("{}", "required"),
+        ("", "required"),
+    ] {
+        let wanted = format!(in rt.alloc();
+            "{{\"code\":2,\"fields\":{{\"_format_version\":\"{word}\"}},\"message\":\"schema violation\",\"name\":\"schema violation\"}}"
+        )?;
+        assert_eq!(rt;
+            refused(rt.alloc(), line)?.as_str(),
+            wanted.as_str(),
+            "{line}"
+        );
+    }
+    Ok(())
+}
+
+#[test]
+fn members_are_told_in_byte_order(rt: HostRuntime) -> Result<(), Fail> {
+    let line = r#"{"upstreams":[],"services":[1],"_info":7,"routes":null,"plugins":{}}"#;
+    let wanted =
+        r#"{"code":2,"fields":{"_format_version":"required","plugins":"type","services":"type","upstreams":"unknown"},"message":"schema violation","name":"schema violation"}"#;
+    assert_eq!(rt; refused(rt.alloc(), line)?.as_str(), wanted);
+    Ok(())
+}
+
+#[test]
+fn other_lines_are_no_declaration(rt: HostRuntime) -> Result<(), Fail> {
+    for line in ["[1]", "null", "{", "{\"a\":1e999}", "3.0"] {
+        let wanted = r#"{"message":"Cannot parse JSON body"}"#;
+        assert_eq!(rt; refused(rt.alloc(), line)?.as_str(), wanted, "{line}");
+    }
+    Ok(())
+}
+
+#[test]
+fn a_violation_tells_each_path(rt: HostRuntime) -> Result<(), Fail> {
+    let alloc = rt.alloc();
+    let mut broken = List::new(alloc);
+    broken.push(Broken {
+        path: Text::from_str(alloc, "port")?,
+        rule: Rule::OutOfRange,
+    })?;
+    broken.push(Broken {
+        path: Text::from_str(alloc, "hosst")?,
+        rule: Rule::Unknown,
+    })?;
+    let response = refusal_response(alloc, &Refusal::Violation(broken))?;
+    assert_eq!(rt; response.status, 400);
+    let wanted =
+        r#"{"code":2,"fields":{"hosst":"unknown","port":"out of range"},"message":"schema violation","name":"schema violation"}"#;
+    assert_eq!(rt; body_of(alloc, &response)?.as_str(), wanted);
+    Ok(())
+}
+
+#[test]
+fn a_missing_row_is_a_foreign_key_violation(rt: HostRuntime) -> Result<(), Fail> {
+    let alloc = rt.alloc();
+    let field = Text::from_str(alloc, "service")?;
+    let refusal = Refusal::Foreign {
+        field,
+        present: false,
+    };
+    let response = refusal_response(alloc, &refusal)?;
+    assert_eq!(rt; response.status, 400);
+    let wanted =
+        r#"{"code":4,"fields":{"service":"missing"},"message":"foreign key violation","name":"foreign key violation"}"#;
+    assert_eq!(rt; body_of(alloc, &response)?.as_str(), wanted);
+    Ok(())
+}
+
+#[test]
+fn a_taken_name_is_a_conflict(rt: HostRuntime) -> Result<(), Fail> {
+    let alloc = rt.alloc();
+    let refusal = Refusal::Unique {
+        field: Text::from_str(alloc, "name")?,
+        other: Id::from_drawn([0; 16]),
+    };
+    let response = refusal_response(alloc, &refusal)?;
+    assert_eq!(rt; response.status, 409);
+    let wanted =
+        r#"{"code":5,"fields":{"name":"taken"},"message":"unique constraint violation","name":"unique constraint violation"}"#;
+    assert_eq!(rt; body_of(alloc, &response)?.as_str(), wanted);
+    Ok(())
+}
