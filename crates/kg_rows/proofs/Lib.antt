@@ -4,6 +4,7 @@ mod Exact
 mod GenerationLemmas
 mod GroupLemmas
 mod HistoryLemmas
+mod RefusalLemmas
 mod SameLemmas
 mod Searches
 mod SetLemmas

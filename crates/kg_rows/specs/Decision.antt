@@ -15,8 +15,8 @@ use Rattle.kg_entities.specs.declared.entity.Kind.{Kind}
 use Rattle.kg_entities.specs.declared.entity.Kind.TheVariants as kind
 use Rattle.kg_rows.specs.Allowed.{is_unused}
 use Rattle.kg_rows.specs.Claims.{claimed}
-use Rattle.kg_rows.specs.References.{links_above, links_in, links_of, lost_field, strange_in}
-use Rattle.kg_rows.specs.Selections.{found}
+use Rattle.kg_rows.specs.References.{link_of, links_in, links_of, lost_field, meanings, strange_field}
+use Rattle.kg_rows.specs.Selections.{found, place_of, rows_in, selected}
 use Rattle.kg_rows.specs.declared.command.Command.{Command}
 use Rattle.kg_rows.specs.declared.command.Command.TheVariants as command
 use Rattle.kg_rows.specs.declared.draft.DecideError.{DecideError}
@@ -74,21 +74,22 @@ still_named kind id rows = if is_unused kind id rows then None else Some (Foreig
 -- ---- rows
 
 -- the row that a body makes over a base, under a parent or alone, in the place of a row or as a new one
-abbrev pub proposed : RowLists → Kind → Data → BaseValue → Links → Option ℕ → Result Entity Refusal
+unfoldable pub proposed : RowLists → Kind → Data → BaseValue → Links → Option ℕ → Result Entity Refusal
 proposed rows kind body base above replaced =
-    let row = row_over kind body base (links_in above body rows) in
-    unless (violation (faults_between kind body base (links_in above body rows) (strange_in above body rows)))
-    (unless (missing (lost_field above body rows (links_of row)))
+    let meant = meanings body rows in
+    let row = row_over kind body base (links_in above meant) in
+    unless (violation (faults_between kind body base (links_in above meant) (strange_field above meant)))
+    (unless (missing (lost_field rows above meant (links_of row)))
     (unless (taken_by_other (claimed row replaced rows))
     (Ok row)))
 
 -- a new row
-abbrev pub inserted : RowLists → Kind → Data → BaseValue → Links → ℕ → Result Command Refusal
+unfoldable pub inserted : RowLists → Kind → Data → BaseValue → Links → ℕ → Result Command Refusal
 inserted rows kind body base above limit =
     and_then (proposed rows kind body base above None) (λ row. unless (full kind rows limit) (Ok (command.Insert row)))
 
 -- a row in the place of the one of its id
-abbrev pub replaced : RowLists → Kind → Data → BaseValue → Links → ℕ → Result Command Refusal
+unfoldable pub replaced : RowLists → Kind → Data → BaseValue → Links → ℕ → Result Command Refusal
 replaced rows kind body base above id =
     and_then (proposed rows kind body base above (Some id)) (λ row. Ok (command.Update row))
 
@@ -111,12 +112,12 @@ base_by kind (Word text) id now = base_by_text kind text id now
 
 abbrev pub insertion : RowLists → Kind → Option Parent → Data → ℕ → ℕ → ℕ → Result Command Refusal
 insertion rows kind parent body id now limit =
-    needed (links_above parent rows) (λ above. inserted rows kind body (base.New id now) above limit)
+    needed (place_of parent rows) (λ place. inserted rows kind body (base.New id now) (link_of place) limit)
 
 abbrev pub patched : RowLists → Kind → Option Parent → Select → Data → ℕ → Result Command Refusal
 patched rows kind parent select body now =
-    needed (links_above parent rows) (λ above. needed (found kind parent select rows) (λ old.
-    replaced rows kind body (base.Old old now) above (id_of_row old)))
+    needed (place_of parent rows) (λ place. needed (selected kind select (rows_in place rows)) (λ old.
+    replaced rows kind body (base.Old old now) (link_of place) (id_of_row old)))
 
 -- the row as it is made again, where it is there
 abbrev pub put_over : RowLists → Kind → Select → Data → Links → ℕ → ℕ → ℕ → Option Entity → Result Command Refusal
@@ -127,7 +128,8 @@ put_over rows kind select body above id now limit None =
 
 abbrev pub put : RowLists → Kind → Option Parent → Select → Data → ℕ → ℕ → ℕ → Result Command Refusal
 put rows kind parent select body id now limit =
-    needed (links_above parent rows) (λ above. put_over rows kind select body above id now limit (found kind parent select rows))
+    needed (place_of parent rows) (λ place.
+    put_over rows kind select body (link_of place) id now limit (selected kind select (rows_in place rows)))
 
 abbrev pub deletion : RowLists → Kind → Option Parent → Select → Result Command Refusal
 deletion rows kind parent select =
@@ -163,8 +165,18 @@ IsProper (Patch kind parent select form now) = (form.kind ≡ kind) × CanStandU
 IsProper (Put kind parent select form id now) = (form.kind ≡ kind) × CanStandUnder kind parent
 IsProper (Delete kind parent select) = CanStandUnder kind parent
 
+-- the error is this refusal; want of memory is free
+abbrev pub Refuses : {A : Type 0} → DecideError → Result A Refusal → Type 0
+Refuses (Refused refusal) meant = meant ≡ Err refusal
+Refuses NoMemory meant = ⊤
+
+-- the error is this refusal, if there is one; want of memory is free
+abbrev pub IsRefusedBy : DecideError → Option Refusal → Type 0
+IsRefusedBy (Refused refusal) told = told ≡ Some refusal
+IsRefusedBy NoMemory told = ⊤
+
 -- the answer is what is decided; want of memory is free
-abbrev pub Decides : Result Command DecideError → Result Command Refusal → Type 0
-Decides (Ok command) meant = meant ≡ Ok command
+abbrev pub Decides : {A : Type 0} → Result A DecideError → Result A Refusal → Type 0
+Decides (Ok x) meant = meant ≡ Ok x
 Decides (Err (Refused refusal)) meant = meant ≡ Err refusal
 Decides (Err NoMemory) meant = ⊤

@@ -1,18 +1,22 @@
 -- The rows that a row is to name: its parent, and those that its body names (Kong Admin API, references
 -- between entities).
-use Rattle.std.specs.Prelude.{ℕ, Bool, false, not, ◌&&◌, ◌||◌, Option, Some, None, is_none, unwrap_or, option_map, List, codes, if◌then◌else◌}
-use Rattle.std.specs.Option.{option_or, option_map_or}
+use Rattle.std.specs.Prelude.{ℕ, ◌==◌, Bool, true, false, not, ◌||◌, Option, Some, None, List, replicate, codes, if◌then◌else◌}
+use Rattle.std.specs.Option.{option_map_or}
 use Rattle.serde_json.specs.Data.{Data}
 use Rattle.kg_entities.specs.Entities.{id_of_row}
+use Rattle.kg_entities.specs.Ids.{drawn_id}
 use Rattle.kg_entities.specs.RowChanges.{has_row}
 use Rattle.kg_entities.specs.RowLists.{RowLists}
-use Rattle.kg_entities.specs.ValidRows.{same_id}
 use Rattle.kg_entities.specs.declared.entity.Entity.{Entity}
 use Rattle.kg_entities.specs.declared.entity.Entity.TheVariants as row
 use Rattle.kg_entities.specs.declared.entity.Kind.{Kind}
 use Rattle.kg_entities.specs.declared.entity.Kind.TheVariants as kind
-use Rattle.kg_rows.specs.Selections.{parent_id, row_with_word}
-use Rattle.kg_rows.specs.declared.select.Parent.{Parent}
+use Rattle.kg_rows.specs.Selections.{row_with_word}
+use Rattle.kg_rows.specs.declared.meaning.Meaning.{Meaning}
+use Rattle.kg_rows.specs.declared.meaning.Meaning.TheVariants.{Unset, Nobody, Row}
+use Rattle.kg_rows.specs.declared.meaning.Meanings.{Meanings}
+use Rattle.kg_rows.specs.declared.place.Place.{Place}
+use Rattle.kg_rows.specs.declared.place.Place.TheVariants.{Anywhere, Under}
 use Rattle.kg_schema.specs.Settings.{reference_at}
 use Rattle.kg_schema.specs.declared.base.Links.{Links}
 use Rattle.kg_schema.specs.declared.base.ParentField.{ParentField}
@@ -33,53 +37,64 @@ link_to kind.Route id = record { service = None; route = Some id; consumer = Non
 link_to kind.Consumer id = record { service = None; route = None; consumer = Some id }
 link_to _ id = no_links
 
--- the reference to a parent, if one is told: none at all where it is missing
-abbrev pub links_above : Option Parent → RowLists → Option Links
-links_above None rows = Some no_links
-links_above (Some parent) rows = option_map (link_to parent.kind) (parent_id parent rows)
+-- the reference to the parent, if there is one
+abbrev pub link_of : Place → Links
+link_of Anywhere = no_links
+link_of (Under kind id) = link_to kind id
 
 -- ---- the references of a body
 
-abbrev pub service_in : Data → Option Reference
-service_in body = reference_at mention.Name (codes "service") body
+-- an id stands for itself, a name for the row that has it
+abbrev pub meaning_of : Kind → RowLists → Reference → Meaning
+meaning_of kind rows (Id id) = Row id
+meaning_of kind rows (Name text) = option_map_or (λ found. Row (id_of_row found)) (row_with_word kind text rows) Nobody
 
-abbrev pub route_in : Data → Option Reference
-route_in body = reference_at mention.Name (codes "route") body
+abbrev pub meaning : Kind → RowLists → Option Reference → Meaning
+meaning kind rows reference = option_map_or (meaning_of kind rows) reference Unset
 
-abbrev pub consumer_in : Data → Option Reference
-consumer_in body = reference_at mention.Username (codes "consumer") body
+-- what a body means by its references
+abbrev pub meanings : Data → RowLists → Meanings
+meanings body rows = record {
+  service = meaning kind.Service rows (reference_at mention.Name (codes "service") body);
+  route = meaning kind.Route rows (reference_at mention.Name (codes "route") body);
+  consumer = meaning kind.Consumer rows (reference_at mention.Username (codes "consumer") body);
+}
 
--- the id that is meant: an id stands for itself, a name for the row that has it
-abbrev pub id_meant : Kind → RowLists → Reference → Option ℕ
-id_meant kind rows (Id id) = Some id
-id_meant kind rows (Name text) = option_map id_of_row (row_with_word kind text rows)
+-- the id that stands for a meaning. Some id holds the place of a row that nobody is, and the row is refused
+-- for it.
+abbrev pub id_meant : Meaning → Option ℕ
+id_meant Unset = None
+id_meant Nobody = Some (drawn_id (replicate 16 0))
+id_meant (Row id) = Some id
 
--- the id for a field: the parent's, else the one that the body means. Where nobody has the name, 0 holds the
--- place, and the row is refused.
-abbrev pub linked : Kind → RowLists → Option ℕ → Option Reference → Option ℕ
-linked kind rows above reference = option_or above (option_map (λ r. unwrap_or (id_meant kind rows r) 0) reference)
+-- the parent's id, else the one that is meant
+abbrev pub linked : Option ℕ → Meaning → Option ℕ
+linked None meant = id_meant meant
+linked (Some above) meant = Some above
 
 -- the rows that a row is to name
-abbrev pub links_in : Links → Data → RowLists → Links
-links_in above body rows = record {
-  service = linked kind.Service rows above.service (service_in body);
-  route = linked kind.Route rows above.route (route_in body);
-  consumer = linked kind.Consumer rows above.consumer (consumer_in body);
+abbrev pub links_in : Links → Meanings → Links
+links_in above meant = record {
+  service = linked above.service meant.service;
+  route = linked above.route meant.route;
+  consumer = linked above.consumer meant.consumer;
 }
 
 -- ---- another parent
 
--- the body names another row than the parent
-abbrev pub names_other : Kind → RowLists → Option ℕ → Option Reference → Bool
-names_other kind rows None reference = false
-names_other kind rows (Some above) reference = option_map_or (λ r. not (same_id (id_meant kind rows r) (Some above))) reference false
+-- another row than the parent is meant
+abbrev pub is_strange : Option ℕ → Meaning → Bool
+is_strange None meant = false
+is_strange (Some above) Unset = false
+is_strange (Some above) Nobody = true
+is_strange (Some above) (Row id) = not (id == above)
 
--- the field of the parent, where the body names another row there
-abbrev pub strange_in : Links → Data → RowLists → Option ParentField
-strange_in above body rows =
-    if names_other kind.Consumer rows above.consumer (consumer_in body) then Some parent.Consumer
-    else (if names_other kind.Route rows above.route (route_in body) then Some parent.Route
-    else (if names_other kind.Service rows above.service (service_in body) then Some parent.Service
+-- the field of the parent, where the body means another row there
+abbrev pub strange_field : Links → Meanings → Option ParentField
+strange_field above meant =
+    if is_strange above.consumer meant.consumer then Some parent.Consumer
+    else (if is_strange above.route meant.route then Some parent.Route
+    else (if is_strange above.service meant.service then Some parent.Service
     else None))
 
 -- ---- rows that are named and aren't there
@@ -94,19 +109,20 @@ links_of (row.BasicCred cred) = record { service = None; route = None; consumer 
 links_of (row.Acl membership) = record { service = None; route = None; consumer = Some membership.consumer }
 links_of (row.Plugin plugin) = record { service = plugin.scope.service; route = plugin.scope.route; consumer = plugin.scope.consumer }
 
--- no parent is told, and the body names a row that nobody is
-abbrev pub names_nobody : Kind → RowLists → Option ℕ → Option Reference → Bool
-names_nobody kind rows above reference = is_none above && option_map_or (λ r. is_none (id_meant kind rows r)) reference false
+-- no parent is told, and nobody is meant
+abbrev pub is_placeholder : Option ℕ → Meaning → Bool
+is_placeholder None Nobody = true
+is_placeholder _ _ = false
 
--- what the finished row names in a field isn't there
-abbrev pub is_lost : Kind → RowLists → Option ℕ → Option Reference → Option ℕ → Bool
-is_lost kind rows above reference None = false
-is_lost kind rows above reference (Some id) = names_nobody kind rows above reference || not (has_row kind id rows)
+-- what the finished row names isn't there
+abbrev pub is_lost : Kind → RowLists → Option ℕ → Meaning → Option ℕ → Bool
+is_lost kind rows above meant None = false
+is_lost kind rows above meant (Some id) = is_placeholder above meant || not (has_row kind id rows)
 
 -- the first such field in byte order
-abbrev pub lost_field : Links → Data → RowLists → Links → Option (List ℕ)
-lost_field above body rows named =
-    if is_lost kind.Consumer rows above.consumer (consumer_in body) named.consumer then Some (codes "consumer")
-    else (if is_lost kind.Route rows above.route (route_in body) named.route then Some (codes "route")
-    else (if is_lost kind.Service rows above.service (service_in body) named.service then Some (codes "service")
+abbrev pub lost_field : RowLists → Links → Meanings → Links → Option (List ℕ)
+lost_field rows above meant named =
+    if is_lost kind.Consumer rows above.consumer meant.consumer named.consumer then Some (codes "consumer")
+    else (if is_lost kind.Route rows above.route meant.route named.route then Some (codes "route")
+    else (if is_lost kind.Service rows above.service meant.service named.service then Some (codes "service")
     else None))

@@ -12,6 +12,8 @@ use Rattle.kg_entities.specs.declared.entity.Entity.TheVariants as row
 use Rattle.kg_entities.specs.declared.entity.Kind.{Kind}
 use Rattle.kg_entities.specs.declared.entity.Kind.TheVariants as kind
 use Rattle.kg_entities.specs.declared.route.Route.{Route}
+use Rattle.kg_rows.specs.declared.place.Place.{Place}
+use Rattle.kg_rows.specs.declared.place.Place.TheVariants.{Anywhere, Under}
 use Rattle.kg_rows.specs.declared.select.Parent.{Parent}
 use Rattle.kg_rows.specs.declared.select.Select.{Select}
 use Rattle.kg_rows.specs.declared.select.Select.TheVariants.{Id, Word}
@@ -73,11 +75,15 @@ rows_under kind id rows = record rows {
 abbrev pub parent_id : Parent → RowLists → Option ℕ
 parent_id parent rows = option_map id_of_row (selected parent.kind parent.select rows)
 
--- the rows among which an item is sought: all, or those under the parent, if it is there
-abbrev pub rows_below : Option Parent → RowLists → Option RowLists
-rows_below None rows = Some rows
-rows_below (Some parent) rows = option_map (λ id. rows_under parent.kind id rows) (parent_id parent rows)
+-- where a row is asked for: under its parent, which may be missing, or among all
+abbrev pub place_of : Option Parent → RowLists → Option Place
+place_of None rows = Some Anywhere
+place_of (Some parent) rows = option_map (Under parent.kind) (parent_id parent rows)
+
+abbrev pub rows_in : Place → RowLists → RowLists
+rows_in Anywhere rows = rows
+rows_in (Under kind id) rows = rows_under kind id rows
 
 -- the row that is meant: none where the parent is missing
 abbrev pub found : Kind → Option Parent → Select → RowLists → Option Entity
-found kind parent select rows = option_and_then (selected kind select) (rows_below parent rows)
+found kind parent select rows = option_and_then (λ place. selected kind select (rows_in place rows)) (place_of parent rows)

@@ -48,7 +48,8 @@ fn has_room(rows: &Rows, command: &Command, limit: u32) -> bool
     }
 }
 
-fn is_unused(kind: Kind, id: Id, rows: &Rows) -> bool
+/// Does no route lead to what is to be deleted?
+pub fn is_unused(kind: Kind, id: Id, rows: &Rows) -> bool
     ensures { result ≡ is_unused kind id rows.now }
 {
     match kind {
@@ -116,7 +117,8 @@ fn is_unique(row: &Entity, rows: &Rows) -> bool
     }
 }
 
-fn is_text(set: &Option<Text>, text: &Text) -> bool
+/// Is the text set to this one?
+pub fn is_text(set: &Option<Text>, text: &Text) -> bool
     ensures { result ≡ is_text text.now set.now }
 {
     match set {
@@ -213,7 +215,8 @@ fn is_membership_taken(membership: &AclRow, acls: &[AclRow]) -> bool
     acls.iter().any(|other| other.id != membership.id && is_same_membership(other, membership))
 }
 
-fn is_same_membership(a: &AclRow, b: &AclRow) -> bool
+/// One consumer in one group?
+pub fn is_same_membership(a: &AclRow, b: &AclRow) -> bool
     ensures { result ≡ same_membership a.now b.now }
 {
     a.consumer == b.consumer && a.group == b.group
@@ -225,7 +228,8 @@ fn is_place_taken(plugin: &PluginRow, plugins: &[PluginRow]) -> bool
     plugins.iter().any(|other| other.id != plugin.id && is_same_place(other, plugin))
 }
 
-fn is_same_place(a: &PluginRow, b: &PluginRow) -> bool
+/// One plugin in one scope?
+pub fn is_same_place(a: &PluginRow, b: &PluginRow) -> bool
     ensures { result ≡ same_place a.now b.now }
 {
     a.config.name().priority() == b.config.name().priority() && a.scope.is_same(&b.scope)

@@ -5,17 +5,23 @@
 #![tactic(auto)]
 
 mod admit;
+mod base;
 mod candidates;
 mod change;
+mod claims;
 mod command;
 mod decision;
 mod draft;
 mod find;
 mod generations;
 mod laws;
+mod meaning;
+mod place;
+mod proposal;
 mod same;
 mod select;
 mod touched;
+mod under;
 mod value;
 mod watch;
 
