@@ -15,7 +15,7 @@ use Rattle.kg_entities.specs.declared.entity.Kind.{Kind}
 use Rattle.kg_entities.specs.declared.entity.Kind.TheVariants as kind
 use Rattle.kg_rows.specs.Allowed.{is_unused}
 use Rattle.kg_rows.specs.Claims.{claimed}
-use Rattle.kg_rows.specs.References.{link_of, links_in, links_of, lost_field, meanings, strange_field}
+use Rattle.kg_rows.specs.References.{link_of, links_in, links_of, lost_field, meant_in, strange_field}
 use Rattle.kg_rows.specs.Selections.{found, place_of, rows_in, selected}
 use Rattle.kg_rows.specs.declared.command.Command.{Command}
 use Rattle.kg_rows.specs.declared.command.Command.TheVariants as command
@@ -76,7 +76,7 @@ still_named kind id rows = if is_unused kind id rows then None else Some (Foreig
 -- the row that a body makes over a base, under a parent or alone, in the place of a row or as a new one
 unfoldable pub proposed : RowLists → Kind → Data → BaseValue → Links → Option ℕ → Result Entity Refusal
 proposed rows kind body base above replaced =
-    let meant = meanings body rows in
+    let meant = meant_in body rows in
     let row = row_over kind body base (links_in above meant) in
     unless (violation (faults_between kind body base (links_in above meant) (strange_field above meant)))
     (unless (missing (lost_field rows above meant (links_of row)))

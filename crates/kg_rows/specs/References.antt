@@ -53,8 +53,8 @@ abbrev pub meaning : Kind → RowLists → Option Reference → Meaning
 meaning kind rows reference = option_map_or (meaning_of kind rows) reference Unset
 
 -- what a body means by its references
-abbrev pub meanings : Data → RowLists → Meanings
-meanings body rows = record {
+abbrev pub meant_in : Data → RowLists → Meanings
+meant_in body rows = record {
   service = meaning kind.Service rows (reference_at mention.Name (codes "service") body);
   route = meaning kind.Route rows (reference_at mention.Name (codes "route") body);
   consumer = meaning kind.Consumer rows (reference_at mention.Username (codes "consumer") body);

@@ -3,7 +3,7 @@
 ghost use Rattle.std.specs.Prelude.{◌≡◌, None, Some, IfOk, option_map};
 ghost use Rattle.serde_json.specs.View.{view};
 ghost use Rattle.kg_entities.specs.declared.entity.Kind.TheVariants as kind;
-ghost use Rattle.kg_rows.specs.References.{id_meant, is_lost, is_placeholder, is_strange, linked, links_in, links_of, lost_field, meaning, meanings, strange_field};
+ghost use Rattle.kg_rows.specs.References.{id_meant, is_lost, is_placeholder, is_strange, linked, links_in, links_of, lost_field, meaning, meant_in, strange_field};
 
 use crate::place::no_links;
 use kg_entities::{Entity, Id, Kind, Rows};
@@ -31,8 +31,8 @@ pub struct Meanings {
 }
 
 /// What the body of a form means by its references.
-pub fn meanings(alloc: Global, rows: &Rows, form: &Form) -> Result<Meanings, NoMemory>
-    ensures { IfOk result (λ meant. meant ≡ meanings (view form.now.body) rows.now) }
+pub fn meant_in(alloc: Global, rows: &Rows, form: &Form) -> Result<Meanings, NoMemory>
+    ensures { IfOk result (λ meant. meant ≡ meant_in (view form.now.body) rows.now) }
 {
     Ok(Meanings {
         service: service_meant(rows, &form.service(alloc)?),

@@ -10,7 +10,7 @@ ghost use Rattle.kg_schema.specs.Finished.{row_over};
 use crate::claims::claimed;
 use crate::command::Command;
 use crate::draft::{DecideError, Refusal};
-use crate::meaning::{links_in, links_of, lost_field, meanings, strange_field};
+use crate::meaning::{links_in, links_of, lost_field, meant_in, strange_field};
 use kg_entities::{Entity, Id, Rows};
 use kg_schema::{Base, Form, FormError, Links, ParentField, finish_under};
 use kg_text::{NoMemory, Text};
@@ -64,7 +64,7 @@ fn proposed(
     ensures ok { IfOk result (λ row. proposed rows.now form.now.kind (view form.now.body) (base_of base.now) above replaced ≡ Ok row) }
     ensures refused { IfErr result (λ e. Refuses e (proposed rows.now form.now.kind (view form.now.body) (base_of base.now) above replaced)) }
 {
-    let meant = meanings(alloc, rows, form)?;
+    let meant = meant_in(alloc, rows, form)?;
     let links = links_in(above, meant);
     let row = finished(alloc, form, base, links, strange_field(above, meant))?;
     if let Some(field) = lost_field(rows, above, meant, links_of(&row)) {
