@@ -16,7 +16,7 @@ use Rattle.kg_entities.specs.declared.entity.Kind.TheVariants as kind
 use Rattle.kg_rows.specs.Allowed.{is_unused}
 use Rattle.kg_rows.specs.Claims.{claimed}
 use Rattle.kg_rows.specs.References.{link_of, links_in, links_of, lost_field, meant_in, strange_field}
-use Rattle.kg_rows.specs.Selections.{found, place_of, rows_in, selected}
+use Rattle.kg_rows.specs.Selections.{place_of, rows_in, selected}
 use Rattle.kg_rows.specs.declared.command.Command.{Command}
 use Rattle.kg_rows.specs.declared.command.Command.TheVariants as command
 use Rattle.kg_rows.specs.declared.draft.DecideError.{DecideError}
@@ -133,7 +133,8 @@ put rows kind parent select body id now limit =
 
 abbrev pub deletion : RowLists → Kind → Option Parent → Select → Result Command Refusal
 deletion rows kind parent select =
-    needed (found kind parent select rows) (λ old. unless (still_named kind (id_of_row old) rows) (Ok (command.Delete kind (id_of_row old))))
+    needed (place_of parent rows) (λ place. needed (selected kind select (rows_in place rows)) (λ old.
+    unless (still_named kind (id_of_row old) rows) (Ok (command.Delete kind (id_of_row old)))))
 
 -- the command, or why there is none
 abbrev pub decision : RowLists → Draft → ℕ → Result Command Refusal

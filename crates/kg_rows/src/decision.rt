@@ -1,7 +1,8 @@
 //! What is decided of a change that is asked for.
 
-ghost use Rattle.std.specs.Prelude.{◌≡◌, Ok};
+ghost use Rattle.std.specs.Prelude.{◌≡◌, Ok, IfOk, IsTrue};
 ghost use Rattle.serde_json.specs.View.{view};
+ghost use Rattle.kg_rows.specs.Allowed.{is_allowed};
 ghost use Rattle.kg_rows.specs.Decision.{Decides, IsProper, decision, deletion, insertion, patched, put_over, still_named, unless};
 ghost use Rattle.kg_rows.specs.References.{link_of};
 ghost use Rattle.kg_rows.specs.Selections.{rows_in, selected};
@@ -20,10 +21,18 @@ use kg_text::Text;
 use std::alloc::Global;
 
 /// The command that makes the change, or why it is refused: the first refusal in the order of
-/// `specs/Decision.antt`. It never answers [`Refusal::HistoryFull`].
+/// `specs/Decision.antt`. What it gives is allowed. It never answers [`Refusal::HistoryFull`].
 pub fn decide(alloc: Global, rows: &Rows, draft: &Draft, limit: u32) -> Result<Command, DecideError>
     requires { IsProper draft.now }
     ensures decision { Decides result (decision rows.now draft.now limit) }
+    ensures allowed { IfOk result (λ command. IsTrue (is_allowed rows.now command limit)) }
+{
+    decided(alloc, rows, draft, limit)
+}
+
+fn decided(alloc: Global, rows: &Rows, draft: &Draft, limit: u32) -> Result<Command, DecideError>
+    requires { IsProper draft.now }
+    ensures { Decides result (decision rows.now draft.now limit) }
 {
     match draft {
         Draft::Insert {

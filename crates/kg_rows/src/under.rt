@@ -1,6 +1,6 @@
 //! Rows that stand under another row.
 
-ghost use Rattle.std.specs.Prelude.{◌≡◌, ℕ, ◌==◌, Bool, false, List as Sequence, IfOk, filter, find, option_map};
+ghost use Rattle.std.specs.Prelude.{◌≡◌, ℕ, ◌==◌, ◌&&◌, Bool, false, List as Sequence, IfOk, filter, find, option_map};
 ghost use Rattle.std.specs.Option.{option_copied};
 ghost use Rattle.std.specs.Str.{bytes_eq};
 ghost use Rattle.kg_entities.specs.Lookups.{is_text};
@@ -203,26 +203,47 @@ fn key_cred_of_word<'r>(
     ensures { option_map of_row.KeyCred (option_copied result) ≡ key_cred_of_word text.now (rows_under upper above rows.now) }
 {
     if let Some(id) = Id::parse(text.as_bytes()) {
-        if let Some(found) = with_id(rows.key_creds().as_slice(), upper, above, id) {
+        if let Some(found) = key_cred_with_id(rows, upper, above, id) {
             return Some(found);
         }
     }
     with_word(rows.key_creds().as_slice(), upper, above, text)
 }
 
+fn key_cred_with_id(rows: &Rows, upper: Kind, above: Id, id: Id) -> Option<&KeyCred>
+    ensures { option_copied result ≡ find (λ row. row.id == id) (filter (λ row. is_owned_under upper above row.consumer) rows.now.key_creds) }
+{
+    with_id(rows.key_creds().as_slice(), upper, above, id)
+}
+
 // The row with this id among those under a row.
-#[tactic(auto, using(crate::proofs::Searches::find_below))]
 fn with_id<T: Below>(rows: &[T], upper: Kind, above: Id, id: Id) -> Option<&T>
     ensures { option_copied result ≡ find (λ row. T.number row == id) (filter (T.below upper above) rows.now) }
+{
+    below_with_id(rows, upper, above, id)
+}
+
+fn below_with_id<T: Below>(rows: &[T], upper: Kind, above: Id, id: Id) -> Option<&T>
+    ensures { option_copied result ≡ find (λ row. T.below upper above row && T.number row == id) rows.now }
 {
     rows.iter()
         .find(|row| row.is_below(upper, above) && row.id() == id)
 }
 
 // The first row with this word among those under a row.
-#[tactic(auto, using(crate::proofs::Searches::find_below))]
 fn with_word<'r, T: Below>(rows: &'r [T], upper: Kind, above: Id, text: &Text) -> Option<&'r T>
     ensures { option_copied result ≡ find (T.worded text.now) (filter (T.below upper above) rows.now) }
+{
+    below_with_word(rows, upper, above, text)
+}
+
+fn below_with_word<'r, T: Below>(
+    rows: &'r [T],
+    upper: Kind,
+    above: Id,
+    text: &Text,
+) -> Option<&'r T>
+    ensures { option_copied result ≡ find (λ row. T.below upper above row && T.worded text.now row) rows.now }
 {
     rows.iter()
         .find(|row| row.is_below(upper, above) && row.has_word(text))
