@@ -1,5 +1,6 @@
 -- What is decided is allowed.
 use Rattle.std.proofs.Common.{◌≡◌, ℕ, ◌/◌, Bool, true, false, not, ◌&&◌, nat_lt, List, Option, None, Some, option_map, Result, Ok, Err, IfOk, if◌then◌else◌, refl, sym, ap, ap₂, subst, ◌∙◌, true≢false}
+use Rattle.std.specs.Option.{option_or}
 use Rattle.serde_json.specs.Data.{Data}
 use Rattle.serde_json.specs.View.{view}
 use Rattle.kg_entities.specs.Entities.{kind_of, id_of_row}
@@ -23,7 +24,7 @@ use Rattle.kg_rows.specs.declared.place.Place.{Place}
 use Rattle.kg_rows.specs.declared.select.Parent.{Parent}
 use Rattle.kg_rows.specs.declared.select.Select.{Select}
 use Rattle.kg_rows.proofs.FoundLemmas.{is_there}
-use Rattle.kg_rows.proofs.FreeLemmas.{covers_new, covers_old, CoversOthers, has_new_id, has_what_it_names, is_unique_row}
+use Rattle.kg_rows.proofs.FreeLemmas.{covers_new, covers_old, CoversOthers, has_new_id, has_what_it_names, is_unique_row, or_first, or_second}
 use Rattle.kg_rows.proofs.MadeLemmas.{id_over_again, id_over_old, kind_over}
 use Rattle.kg_schema.specs.Bases.{BaseValue, Again, New, Old, made_at}
 use Rattle.kg_schema.specs.Between.{faults_between}
@@ -77,27 +78,23 @@ module _ (rows : RowLists) (of_kind : Kind) (body : Data) (base : BaseValue) (ab
   abbrev claim : Option (List ℕ × ℕ)
   claim = claimed made replaced_id rows
 
-  abbrev last : Result Entity Refusal
-  last = unless (taken_by_other claim) (Ok made)
+  abbrev refused : Option Refusal
+  refused = option_or (missing lost) (taken_by_other claim)
 
-  abbrev later : Result Entity Refusal
-  later = unless (missing lost) last
-
-  is_later : (new : Entity) → proposed rows of_kind body base above replaced_id ≡ Ok new → later ≡ Ok new
+  is_later : (new : Entity) → proposed rows of_kind body base above replaced_id ≡ Ok new → unless refused (Ok made) ≡ Ok new
   unfolding proposed
-  is_later new same = unless_rest (violation (faults_between of_kind body base (links_in above (meant_in body rows)) (strange_field above (meant_in body rows)))) later new same
-
-  is_last : (new : Entity) → proposed rows of_kind body base above replaced_id ≡ Ok new → last ≡ Ok new
-  is_last new same = unless_rest (missing lost) last new (is_later new same)
+  is_later new same = unless_rest (violation (faults_between of_kind body base (links_in above (meant_in body rows)) (strange_field above (meant_in body rows)))) (unless refused (Ok made)) new same
 
   is_made : (new : Entity) → proposed rows of_kind body base above replaced_id ≡ Ok new → made ≡ new
-  is_made new same = ok_is (unless_rest (taken_by_other claim) (Ok made) new (is_last new same))
+  is_made new same = ok_is (unless_rest refused (Ok made) new (is_later new same))
 
   is_fit : (new : Entity) → proposed rows of_kind body base above replaced_id ≡ Ok new → IsFit rows made replaced_id
-  is_fit new same = record {
-    named = has_what_it_names made rows above (meant_in body rows) (unmapped _ lost (unless_none (missing lost) last new (is_later new same)));
-    free = unmapped _ claim (unless_none (taken_by_other claim) (Ok made) new (is_last new same));
-  }
+  is_fit new same =
+      let none : refused ≡ None = unless_none refused (Ok made) new (is_later new same) in
+      record {
+        named = has_what_it_names made rows above (meant_in body rows) (unmapped _ lost (or_first (missing lost) (taken_by_other claim) none));
+        free = unmapped _ claim (or_second (missing lost) (taken_by_other claim) none);
+      }
 
 -- ---- new rows
 

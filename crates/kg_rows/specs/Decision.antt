@@ -25,6 +25,7 @@ use Rattle.kg_rows.specs.declared.draft.Draft.{Draft}
 use Rattle.kg_rows.specs.declared.draft.Draft.TheVariants.{Insert, Patch, Put, Delete}
 use Rattle.kg_rows.specs.declared.draft.Refusal.{Refusal}
 use Rattle.kg_rows.specs.declared.draft.Refusal.TheVariants.{NotFound, Violation, Foreign, Unique, Full}
+use Rattle.kg_rows.specs.declared.meaning.Meanings.{Meanings}
 use Rattle.kg_rows.specs.declared.select.Parent.{Parent}
 use Rattle.kg_rows.specs.declared.select.Select.{Select}
 use Rattle.kg_rows.specs.declared.select.Select.TheVariants.{Id, Word}
@@ -73,15 +74,18 @@ still_named kind id rows = if is_unused kind id rows then None else Some (Foreig
 
 -- ---- rows
 
+-- why the rows refuse a finished row: what it names isn't there, or another row has what only one may have
+abbrev pub conflict : RowLists → Links → Meanings → Entity → Option ℕ → Option Refusal
+conflict rows above meant row replaced =
+    option_or (missing (lost_field rows above meant (links_of row))) (taken_by_other (claimed row replaced rows))
+
 -- the row that a body makes over a base, under a parent or alone, in the place of a row or as a new one
 unfoldable pub proposed : RowLists → Kind → Data → BaseValue → Links → Option ℕ → Result Entity Refusal
 proposed rows kind body base above replaced =
     let meant = meant_in body rows in
     let row = row_over kind body base (links_in above meant) in
     unless (violation (faults_between kind body base (links_in above meant) (strange_field above meant)))
-    (unless (missing (lost_field rows above meant (links_of row)))
-    (unless (taken_by_other (claimed row replaced rows))
-    (Ok row)))
+    (unless (conflict rows above meant row replaced) (Ok row))
 
 -- a new row
 unfoldable pub inserted : RowLists → Kind → Data → BaseValue → Links → ℕ → Result Command Refusal

@@ -5,6 +5,7 @@ ghost use Rattle.std.specs.Option.{option_copied, option_or};
 ghost use Rattle.std.specs.Str.{bytes_eq};
 ghost use Rattle.kg_entities.specs.Lookups.{is_text};
 ghost use Rattle.kg_entities.specs.ValidRows.{same_membership, same_place};
+ghost use Rattle.kg_entities.specs.declared.entity.Entity.TheVariants as of_row;
 ghost use Rattle.kg_rows.specs.Claims.{claimed, holder, id_holder, is_other, taken, text_holder};
 
 use crate::admit::{is_same_membership, is_same_place, is_text};
@@ -16,40 +17,52 @@ use kg_text::Text;
 type Claim = (&'static str, Id);
 
 /// The first field, in byte order, that another row than the replaced one has, with that row's id.
-pub fn claimed(rows: &Rows, row: &Entity, replaced: Option<Id>) -> Option<Claim>
-    ensures { option_map (λ claim. (claim.0.now, claim.1)) result ≡ claimed row.now replaced rows.now }
+pub fn claimed(rows: &Rows, row: &Entity, replaced: &Option<Id>) -> Option<Claim>
+    ensures { option_map (λ claim. (claim.0.now, claim.1)) result ≡ claimed row.now replaced.now rows.now }
 {
     match row {
         Entity::Service(service) => {
-            let id = taken("id", id_holder(rows, Kind::Service, service.id, replaced));
-            first(id, taken("name", named_service(rows, replaced, service)))
+            let id = id_holder(rows, Kind::Service, service.id, *replaced);
+            let name = named_service(rows, *replaced, service);
+            first("id", id, "name", name)
         }
         Entity::Route(route) => {
-            let id = taken("id", id_holder(rows, Kind::Route, route.id, replaced));
-            first(id, taken("name", named_route(rows, replaced, route)))
+            let id = id_holder(rows, Kind::Route, route.id, *replaced);
+            let name = named_route(rows, *replaced, route);
+            first("id", id, "name", name)
         }
-        Entity::Consumer(consumer) => {
-            let custom_id = taken("custom_id", custom_id_holder(rows, replaced, consumer));
-            let id = taken("id", id_holder(rows, Kind::Consumer, consumer.id, replaced));
-            let username = taken("username", username_holder(rows, replaced, consumer));
-            first(custom_id, first(id, username))
-        }
+        Entity::Consumer(consumer) => claimed_consumer(rows, consumer, replaced),
         Entity::KeyCred(cred) => {
-            let id = taken("id", id_holder(rows, Kind::KeyCred, cred.id, replaced));
-            first(id, taken("key", key_holder(rows, replaced, cred)))
+            let id = id_holder(rows, Kind::KeyCred, cred.id, *replaced);
+            let key = key_holder(rows, *replaced, cred);
+            first("id", id, "key", key)
         }
         Entity::BasicCred(cred) => {
-            let id = taken("id", id_holder(rows, Kind::BasicCred, cred.id, replaced));
-            first(id, taken("username", login_holder(rows, replaced, cred)))
+            let id = id_holder(rows, Kind::BasicCred, cred.id, *replaced);
+            let username = login_holder(rows, *replaced, cred);
+            first("id", id, "username", username)
         }
         Entity::Acl(membership) => {
-            let group = taken("group", group_holder(rows, replaced, membership));
-            first(group, taken("id", id_holder(rows, Kind::Acl, membership.id, replaced)))
+            let group = group_holder(rows, *replaced, membership);
+            let id = id_holder(rows, Kind::Acl, membership.id, *replaced);
+            first("group", group, "id", id)
         }
         Entity::Plugin(plugin) => {
-            let id = taken("id", id_holder(rows, Kind::Plugin, plugin.id, replaced));
-            first(id, taken("name", place_holder(rows, replaced, plugin)))
+            let id = id_holder(rows, Kind::Plugin, plugin.id, *replaced);
+            let place = place_holder(rows, *replaced, plugin);
+            first("id", id, "name", place)
         }
+    }
+}
+
+fn claimed_consumer(rows: &Rows, consumer: &Consumer, replaced: &Option<Id>) -> Option<Claim>
+    ensures { option_map (λ claim. (claim.0.now, claim.1)) result ≡ claimed (of_row.Consumer consumer.now) replaced.now rows.now }
+{
+    let id = id_holder(rows, Kind::Consumer, consumer.id, *replaced);
+    let username = username_holder(rows, *replaced, consumer);
+    match custom_id_holder(rows, *replaced, consumer) {
+        Some(other) => Some(("custom_id", other)),
+        None => first("id", id, "username", username),
     }
 }
 
@@ -63,12 +76,18 @@ fn taken(field: &'static str, found: Option<Id>) -> Option<Claim>
     }
 }
 
-fn first(claim: Option<Claim>, other: Option<Claim>) -> Option<Claim>
-    ensures { option_map (λ c. (c.0.now, c.1)) result ≡ option_or (option_map (λ c. (c.0.now, c.1)) claim.entry) (option_map (λ c. (c.0.now, c.1)) other.entry) }
+// The first of two fields that is taken.
+fn first(
+    field: &'static str,
+    found: Option<Id>,
+    later: &'static str,
+    other: Option<Id>,
+) -> Option<Claim>
+    ensures { option_map (λ claim. (claim.0.now, claim.1)) result ≡ option_or (taken field.now found) (taken later.now other) }
 {
-    match claim {
-        Some(claim) => Some(claim),
-        None => other,
+    match found {
+        Some(id) => Some((field, id)),
+        None => taken(later, other),
     }
 }
 
@@ -106,9 +125,15 @@ fn named_service(rows: &Rows, replaced: Option<Id>, service: &Service) -> Option
     ensures { result ≡ text_holder (λ other. other.id) (λ other. other.name) replaced service.now.name rows.now.services }
 {
     match &service.name {
-        Some(name) => id_of(service_with_name(rows.services().as_slice(), replaced, name)),
+        Some(name) => service_name_holder(rows, replaced, name),
         None => None,
     }
+}
+
+fn service_name_holder(rows: &Rows, replaced: Option<Id>, name: &Text) -> Option<Id>
+    ensures { result ≡ holder (λ other. other.id) replaced (λ other. is_text name.now other.name) rows.now.services }
+{
+    id_of(service_with_name(rows.services().as_slice(), replaced, name))
 }
 
 fn service_with_name<'r>(
@@ -127,9 +152,15 @@ fn named_route(rows: &Rows, replaced: Option<Id>, route: &Route) -> Option<Id>
     ensures { result ≡ text_holder (λ other. other.id) (λ other. other.name) replaced route.now.name rows.now.routes }
 {
     match &route.name {
-        Some(name) => id_of(route_with_name(rows.routes().as_slice(), replaced, name)),
+        Some(name) => route_name_holder(rows, replaced, name),
         None => None,
     }
+}
+
+fn route_name_holder(rows: &Rows, replaced: Option<Id>, name: &Text) -> Option<Id>
+    ensures { result ≡ holder (λ other. other.id) replaced (λ other. is_text name.now other.name) rows.now.routes }
+{
+    id_of(route_with_name(rows.routes().as_slice(), replaced, name))
 }
 
 fn route_with_name<'r>(
@@ -148,9 +179,15 @@ fn username_holder(rows: &Rows, replaced: Option<Id>, consumer: &Consumer) -> Op
     ensures { result ≡ text_holder (λ other. other.id) (λ other. other.username) replaced consumer.now.username rows.now.consumers }
 {
     match &consumer.username {
-        Some(name) => id_of(consumer_with_username(rows.consumers().as_slice(), replaced, name)),
+        Some(name) => username_text_holder(rows, replaced, name),
         None => None,
     }
+}
+
+fn username_text_holder(rows: &Rows, replaced: Option<Id>, name: &Text) -> Option<Id>
+    ensures { result ≡ holder (λ other. other.id) replaced (λ other. is_text name.now other.username) rows.now.consumers }
+{
+    id_of(consumer_with_username(rows.consumers().as_slice(), replaced, name))
 }
 
 fn consumer_with_username<'r>(
@@ -169,9 +206,15 @@ fn custom_id_holder(rows: &Rows, replaced: Option<Id>, consumer: &Consumer) -> O
     ensures { result ≡ text_holder (λ other. other.id) (λ other. other.custom_id) replaced consumer.now.custom_id rows.now.consumers }
 {
     match &consumer.custom_id {
-        Some(text) => id_of(consumer_with_custom_id(rows.consumers().as_slice(), replaced, text)),
+        Some(text) => custom_id_text_holder(rows, replaced, text),
         None => None,
     }
+}
+
+fn custom_id_text_holder(rows: &Rows, replaced: Option<Id>, text: &Text) -> Option<Id>
+    ensures { result ≡ holder (λ other. other.id) replaced (λ other. is_text text.now other.custom_id) rows.now.consumers }
+{
+    id_of(consumer_with_custom_id(rows.consumers().as_slice(), replaced, text))
 }
 
 fn consumer_with_custom_id<'r>(

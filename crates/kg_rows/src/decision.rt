@@ -3,8 +3,11 @@
 ghost use Rattle.std.specs.Prelude.{◌≡◌, Ok, IfOk, IsTrue};
 ghost use Rattle.serde_json.specs.View.{view};
 ghost use Rattle.kg_rows.specs.Allowed.{is_allowed};
-ghost use Rattle.kg_rows.specs.Decision.{Decides, IsProper, decision, deletion, insertion, patched, put_over, still_named, unless};
+ghost use Rattle.kg_rows.specs.Decision.{Decides, IsProper, decision, deletion, insertion, patched, put_over, replaced, still_named, unless};
 ghost use Rattle.kg_rows.specs.References.{link_of};
+ghost use Rattle.kg_schema.specs.Bases as base_again;
+ghost use Rattle.kg_schema.specs.Bases.{made_at};
+ghost use Rattle.kg_entities.specs.Entities.{id_of_row};
 ghost use Rattle.kg_rows.specs.Selections.{rows_in, selected};
 ghost use Rattle.kg_rows.specs.declared.command.Command.TheVariants as command;
 
@@ -15,9 +18,9 @@ use crate::draft::{DecideError, Draft, Refusal};
 use crate::place::{Place, link_of, place_of, selected_in};
 use crate::proposal::{inserted, replaced};
 use crate::select::{Parent, Select};
-use kg_entities::{Id, Kind, Rows};
-use kg_schema::{Base, Form};
-use kg_text::Text;
+use kg_entities::{Entity, Id, Kind, Rows};
+use kg_schema::{Base, Form, Links};
+use kg_text::{NoMemory, Text};
 use std::alloc::Global;
 
 /// The command that makes the change, or why it is refused: the first refusal in the order of
@@ -57,7 +60,7 @@ fn decided(alloc: Global, rows: &Rows, draft: &Draft, limit: u32) -> Result<Comm
             id,
             now,
         } => match place_of(alloc, rows, parent)? {
-            Some(place) => put(alloc, rows, *kind, place, select, form, *id, *now, limit),
+            Some(place) => put(alloc, rows, *kind, &place, select, form, *id, *now, limit),
             None => Err(DecideError::Refused(Refusal::NotFound)),
         },
         Draft::Delete {
@@ -82,7 +85,8 @@ fn insertion(
     match place_of(alloc, rows, parent)? {
         Some(place) => {
             let base = Base::New { id, now };
-            inserted(alloc, rows, form, &base, link_of(place), limit)
+            let above = link_of(&place);
+            inserted(alloc, rows, form, &base, &above, limit)
         }
         None => Err(DecideError::Refused(Refusal::NotFound)),
     }
@@ -101,10 +105,12 @@ fn patched(
     ensures { Decides result (patched rows.now kind parent.now select.now (view form.now.body) now) }
 {
     match place_of(alloc, rows, parent)? {
-        Some(place) => match selected_in(alloc, rows, kind, place, select)? {
+        Some(place) => match selected_in(alloc, rows, kind, &place, select)? {
             Some(old) => {
+                let id = old.id();
                 let base = Base::Old { row: &old, now };
-                replaced(alloc, rows, form, &base, link_of(place), old.id())
+                let above = link_of(&place);
+                replaced(alloc, rows, form, &base, &above, id)
             }
             None => Err(DecideError::Refused(Refusal::NotFound)),
         },
@@ -116,7 +122,7 @@ fn put(
     alloc: Global,
     rows: &Rows,
     kind: Kind,
-    place: Place,
+    place: &Place,
     select: &Select,
     form: &Form,
     id: Id,
@@ -124,22 +130,38 @@ fn put(
     limit: u32,
 ) -> Result<Command, DecideError>
     requires { form.now.kind ≡ kind }
-    ensures { Decides result (put_over rows.now kind select.now (view form.now.body) (link_of place) id now limit (selected kind select.now (rows_in place rows.now))) }
+    ensures { Decides result (put_over rows.now kind select.now (view form.now.body) (link_of place.now) id now limit (selected kind select.now (rows_in place.now rows.now))) }
 {
+    let above = link_of(place);
     match selected_in(alloc, rows, kind, place, select)? {
-        Some(old) => {
-            let base = Base::Again {
-                id: old.id(),
-                created_at: made_at(&old),
-                now,
-            };
-            replaced(alloc, rows, form, &base, link_of(place), old.id())
-        }
-        None => match base_by(alloc, kind, select, id, now)? {
-            Some(base) => inserted(alloc, rows, form, &base, link_of(place), limit),
-            None => Err(DecideError::Refused(Refusal::NotFound)),
+        Some(old) => put_again(alloc, rows, form, &above, &old, now),
+        None => match base_by(alloc, kind, select, id, now) {
+            Ok(Some(base)) => inserted(alloc, rows, form, &base, &above, limit),
+            Ok(None) => Err(DecideError::Refused(Refusal::NotFound)),
+            Err(NoMemory) => Err(DecideError::NoMemory),
         },
     }
+}
+
+// Makes a row again: its id and its creation stay.
+fn put_again(
+    alloc: Global,
+    rows: &Rows,
+    form: &Form,
+    above: &Links,
+    old: &Entity,
+    now: u64,
+) -> Result<Command, DecideError>
+    ensures { Decides result (replaced rows.now form.now.kind (view form.now.body) (base_again.Again (id_of_row old.now) (made_at old.now) now) above.now (id_of_row old.now)) }
+{
+    let id = old.id();
+    let created_at = made_at(old);
+    let base = Base::Again {
+        id,
+        created_at,
+        now,
+    };
+    replaced(alloc, rows, form, &base, above, id)
 }
 
 fn deletion(
@@ -152,7 +174,7 @@ fn deletion(
     ensures { Decides result (deletion rows.now kind parent.now select.now) }
 {
     match place_of(alloc, rows, parent)? {
-        Some(place) => match selected_in(alloc, rows, kind, place, select)? {
+        Some(place) => match selected_in(alloc, rows, kind, &place, select)? {
             Some(old) => deleted(alloc, rows, kind, old.id()),
             None => Err(DecideError::Refused(Refusal::NotFound)),
         },

@@ -81,8 +81,8 @@ fn consumer_meant(rows: &Rows, reference: &Option<Reference>) -> Meaning
 }
 
 /// The rows that a row is to name: its parent, else those that its body means.
-pub fn links_in(above: Links, meant: Meanings) -> Links
-    ensures { result ≡ links_in above meant }
+pub fn links_in(above: &Links, meant: &Meanings) -> Links
+    ensures { result ≡ links_in above.now meant.now }
 {
     Links {
         service: linked(above.service, meant.service),
@@ -112,8 +112,8 @@ fn id_meant(meant: Meaning) -> Option<Id>
 }
 
 /// The field of the parent, where the body means another row there.
-pub fn strange_field(above: Links, meant: Meanings) -> Option<ParentField>
-    ensures { result ≡ strange_field above meant }
+pub fn strange_field(above: &Links, meant: &Meanings) -> Option<ParentField>
+    ensures { result ≡ strange_field above.now meant.now }
 {
     if is_strange(above.consumer, meant.consumer) {
         return Some(ParentField::Consumer);
@@ -174,8 +174,13 @@ fn of_consumer(id: Id) -> Links
 }
 
 /// The first field, in byte order, in which a finished row names a row that isn't there.
-pub fn lost_field(rows: &Rows, above: Links, meant: Meanings, named: Links) -> Option<&'static str>
-    ensures { option_map (λ field. field.now) result ≡ lost_field rows.now above meant named }
+pub fn lost_field(
+    rows: &Rows,
+    above: &Links,
+    meant: &Meanings,
+    named: &Links,
+) -> Option<&'static str>
+    ensures { option_map (λ field. field.now) result ≡ lost_field rows.now above.now meant.now named.now }
 {
     if is_lost(rows, Kind::Consumer, above.consumer, meant.consumer, named.consumer) {
         return Some("consumer");

@@ -58,24 +58,24 @@ pub fn selected_in(
     alloc: Global,
     rows: &Rows,
     kind: Kind,
-    place: Place,
+    place: &Place,
     select: &Select,
 ) -> Result<Option<Entity>, NoMemory>
-    ensures { IfOk result (λ row. row ≡ selected kind select.now (rows_in place rows.now)) }
+    ensures { IfOk result (λ row. row ≡ selected kind select.now (rows_in place.now rows.now)) }
 {
     match place {
         Place::Anywhere => selected(alloc, rows, kind, select),
-        Place::Under { kind: upper, id } => selected_under(alloc, rows, kind, upper, id, select),
+        Place::Under { kind: upper, id } => selected_under(alloc, rows, kind, *upper, *id, select),
     }
 }
 
 /// The reference to the parent, if there is one.
-pub fn link_of(place: Place) -> Links
-    ensures { result ≡ link_of place }
+pub fn link_of(place: &Place) -> Links
+    ensures { result ≡ link_of place.now }
 {
     match place {
         Place::Anywhere => no_links(),
-        Place::Under { kind, id } => link_to(kind, id),
+        Place::Under { kind, id } => link_to(*kind, *id),
     }
 }
 

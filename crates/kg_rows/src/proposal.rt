@@ -2,7 +2,7 @@
 
 ghost use Rattle.std.specs.Prelude.{◌≡◌, None, Some, Ok, IfOk, IfErr, OnOk};
 ghost use Rattle.serde_json.specs.View.{view};
-ghost use Rattle.kg_rows.specs.Decision.{IsRefusedBy, Decides, Refuses, inserted, missing, proposed, replaced, taken_by_other, violation};
+ghost use Rattle.kg_rows.specs.Decision.{IsRefusedBy, Decides, Refuses, conflict, inserted, missing, proposed, replaced, taken_by_other, violation};
 ghost use Rattle.kg_schema.specs.Bases.{base_of};
 ghost use Rattle.kg_schema.specs.Between.{faults_between};
 ghost use Rattle.kg_schema.specs.Finished.{row_over};
@@ -10,7 +10,7 @@ ghost use Rattle.kg_schema.specs.Finished.{row_over};
 use crate::claims::claimed;
 use crate::command::Command;
 use crate::draft::{DecideError, Refusal};
-use crate::meaning::{links_in, links_of, lost_field, meant_in, strange_field};
+use crate::meaning::{Meanings, links_in, links_of, lost_field, meant_in, strange_field};
 use kg_entities::{Entity, Id, Rows};
 use kg_schema::{Base, Form, FormError, Links, ParentField, finish_under};
 use kg_text::{NoMemory, Text};
@@ -23,10 +23,10 @@ pub fn inserted(
     rows: &Rows,
     form: &Form,
     base: &Base<'_>,
-    above: Links,
+    above: &Links,
     limit: u32,
 ) -> Result<Command, DecideError>
-    ensures { Decides result (inserted rows.now form.now.kind (view form.now.body) (base_of base.now) above limit) }
+    ensures { Decides result (inserted rows.now form.now.kind (view form.now.body) (base_of base.now) above.now limit) }
 {
     let row = proposed(alloc, rows, form, base, above, None)?;
     if rows.count(form.kind()) < limit as usize {
@@ -42,10 +42,10 @@ pub fn replaced(
     rows: &Rows,
     form: &Form,
     base: &Base<'_>,
-    above: Links,
+    above: &Links,
     id: Id,
 ) -> Result<Command, DecideError>
-    ensures { Decides result (replaced rows.now form.now.kind (view form.now.body) (base_of base.now) above id) }
+    ensures { Decides result (replaced rows.now form.now.kind (view form.now.body) (base_of base.now) above.now id) }
 {
     let row = proposed(alloc, rows, form, base, above, Some(id))?;
     Ok(Command::Update(row))
@@ -58,22 +58,40 @@ fn proposed(
     rows: &Rows,
     form: &Form,
     base: &Base<'_>,
-    above: Links,
+    above: &Links,
     replaced: Option<Id>,
 ) -> Result<Entity, DecideError>
-    ensures ok { IfOk result (λ row. proposed rows.now form.now.kind (view form.now.body) (base_of base.now) above replaced ≡ Ok row) }
-    ensures refused { IfErr result (λ e. Refuses e (proposed rows.now form.now.kind (view form.now.body) (base_of base.now) above replaced)) }
+    ensures ok { IfOk result (λ row. proposed rows.now form.now.kind (view form.now.body) (base_of base.now) above.now replaced ≡ Ok row) }
+    ensures refused { IfErr result (λ e. Refuses e (proposed rows.now form.now.kind (view form.now.body) (base_of base.now) above.now replaced)) }
 {
     let meant = meant_in(alloc, rows, form)?;
-    let links = links_in(above, meant);
-    let row = finished(alloc, form, base, links, strange_field(above, meant))?;
-    if let Some(field) = lost_field(rows, above, meant, links_of(&row)) {
+    let links = links_in(above, &meant);
+    let strange = strange_field(above, &meant);
+    let row = finished(alloc, form, base, &links, strange)?;
+    fit(alloc, rows, above, &meant, &row, replaced)?;
+    Ok(row)
+}
+
+// Refuses a row that names what isn't there, or has what another row has.
+fn fit(
+    alloc: Global,
+    rows: &Rows,
+    above: &Links,
+    meant: &Meanings,
+    row: &Entity,
+    replaced: Option<Id>,
+) -> Result<(), DecideError>
+    ensures ok { OnOk result (conflict rows.now above.now meant.now row.now replaced ≡ None) }
+    ensures refused { IfErr result (λ e. IsRefusedBy e (conflict rows.now above.now meant.now row.now replaced)) }
+{
+    let named = links_of(row);
+    if let Some(field) = lost_field(rows, above, meant, &named) {
         return Err(DecideError::Refused(missing(alloc, field)?));
     }
-    if let Some((field, other)) = claimed(rows, &row, replaced) {
+    if let Some((field, other)) = claimed(rows, row, &replaced) {
         return Err(DecideError::Refused(taken_by_other(alloc, field, other)?));
     }
-    Ok(row)
+    Ok(())
 }
 
 // The finished row, unless it breaks rules between its fields.
@@ -82,14 +100,14 @@ fn finished(
     alloc: Global,
     form: &Form,
     base: &Base<'_>,
-    links: Links,
+    links: &Links,
     strange: Option<ParentField>,
 ) -> Result<Entity, DecideError>
-    ensures row { IfOk result (λ row. row ≡ row_over form.now.kind (view form.now.body) (base_of base.now) links) }
-    ensures valid { OnOk result (violation (faults_between form.now.kind (view form.now.body) (base_of base.now) links strange) ≡ None) }
-    ensures refused { IfErr result (λ e. IsRefusedBy e (violation (faults_between form.now.kind (view form.now.body) (base_of base.now) links strange))) }
+    ensures row { IfOk result (λ row. row ≡ row_over form.now.kind (view form.now.body) (base_of base.now) links.now) }
+    ensures valid { OnOk result (violation (faults_between form.now.kind (view form.now.body) (base_of base.now) links.now strange) ≡ None) }
+    ensures refused { IfErr result (λ e. IsRefusedBy e (violation (faults_between form.now.kind (view form.now.body) (base_of base.now) links.now strange))) }
 {
-    match finish_under(alloc, form, base, &links, strange) {
+    match finish_under(alloc, form, base, links, strange) {
         Ok(row) => Ok(row),
         Err(FormError::Violation(broken)) => {
             Err(DecideError::Refused(Refusal::Violation(broken)))
