@@ -31,7 +31,6 @@ use Rattle.kg_schema.specs.Finished.{row_over}
 use Rattle.kg_schema.specs.Judging.{is_set}
 use Rattle.kg_schema.specs.Rules.{Fault}
 use Rattle.kg_schema.specs.Settings.{text_at, id_at, inside}
-use Rattle.kg_schema.specs.TextRules.{text_rule}
 use Rattle.kg_schema.specs.declared.base.Links.{Links}
 use Rattle.kg_schema.specs.declared.base.ParentField.{ParentField}
 use Rattle.kg_schema.specs.declared.base.ParentField.TheVariants as parent
@@ -67,10 +66,6 @@ word_field kind.KeyCred = Some (codes "key", word.FreeText)
 word_field kind.BasicCred = Some (codes "username", word.FreeText)
 word_field kind.Acl = Some (codes "group", word.FreeText)
 word_field kind.Plugin = None
-
--- a text by which a row of this kind can be made
-abbrev pub accepts_word : Kind → List ℕ → Bool
-accepts_word kind text = option_map_or (λ field. is_none (text_rule field.1 text)) (word_field kind) false
 
 -- the body says another word than the one by which the row is made
 abbrev pub word_faults : Kind → Data → BaseValue → List Fault

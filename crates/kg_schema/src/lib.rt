@@ -27,7 +27,7 @@ pub use crate::fault::Broken;
 pub use crate::fields::members_of_a_faultless_object_are_accepted;
 pub use crate::form::{Form, FormError, read_form};
 pub use crate::reference::Reference;
-pub use crate::row::{accepts_word, finish, finish_under};
+pub use crate::row::{finish, finish_under};
 pub use crate::rule::Rule;
 pub use crate::show::show_entity;
 

@@ -5,7 +5,7 @@ ghost use Rattle.std.specs.Prelude.{◌≡◌, [], IfOk, IfErr, OnOk, fold, opti
 ghost use Rattle.std.specs.Str.{bytes_eq};
 ghost use Rattle.serde_json.specs.View.{view};
 ghost use Rattle.kg_schema.specs.Bases.{base_of, given_word};
-ghost use Rattle.kg_schema.specs.Between.{accepts_word, differ, faults_between, id_faults, is_renamed, parent_text, row_faults, strange_faults, word_faults, word_field};
+ghost use Rattle.kg_schema.specs.Between.{differ, faults_between, id_faults, is_renamed, parent_text, row_faults, strange_faults, word_faults, word_field};
 ghost use Rattle.kg_schema.specs.Finished.{row_over};
 ghost use Rattle.kg_schema.specs.Rules.{Tells, tell};
 ghost use Rattle.kg_schema.specs.Settings.{text_at};
@@ -35,10 +35,9 @@ use crate::row::tell::tell_if;
 use crate::form::{Form, FormError};
 use crate::rule::Rule;
 use crate::settings::{id_at, text_at};
-use crate::text_rule::text_rule;
 use crate::word::Word;
 use kg_entities::{Entity, Kind};
-use kg_text::{NoMemory, Text};
+use kg_text::NoMemory;
 use serde_json::Value;
 use std::alloc::Global;
 
@@ -192,17 +191,6 @@ fn tell_id(alloc: Global, faults: &mut Faults, body: &Value, base: &Base<'_>) ->
         None => false,
     };
     tell_if(alloc, faults, other, "id", Rule::Fixed)
-}
-
-/// Whether a row of the kind can be made by this word: the name of a service or a route, the username of
-/// a consumer, the key, username or group of a credential. A plugin has no word.
-pub fn accepts_word(alloc: Global, kind: Kind, word: &Text) -> Result<bool, NoMemory>
-    ensures { IfOk result (λ accepts. accepts ≡ accepts_word kind word.now) }
-{
-    match word_field(kind) {
-        Some((_, spelled)) => Ok(text_rule(alloc, spelled, word.as_str())?.is_none()),
-        None => Ok(false),
-    }
 }
 
 // Tells a word that is another than the one by which the row is made.
