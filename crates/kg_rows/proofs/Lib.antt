@@ -1,9 +1,14 @@
 mod Covers
+mod DecidedLemmas
 mod Differs
 mod Exact
+mod FoundLemmas
+mod FreeLemmas
 mod GenerationLemmas
 mod GroupLemmas
 mod HistoryLemmas
+mod MadeLemmas
+mod RefusalLemmas
 mod SameLemmas
 mod Searches
 mod SetLemmas

@@ -1,5 +1,5 @@
 -- Searches of a list that was changed where they don't look.
-use Rattle.std.proofs.Common.{◌≡◌, Bool, true, false, cond, not, ◌||◌, List, [], ◌∷◌, ◌++◌, Option, Some, filter, find, refl, sym, ap, ◌∙◌, true≢false}
+use Rattle.std.proofs.Common.{◌≡◌, Bool, true, false, cond, not, ◌&&◌, ◌||◌, List, [], ◌∷◌, ◌++◌, Option, Some, filter, find, refl, sym, ap, ◌∙◌, true≢false}
 use Rattle.std.proofs.lemmas.List.Folds.{list_any-append}
 use Rattle.std.specs.List.{list_any, flat_map}
 use Rattle.kg_entities.specs.Tables.{replaced}
@@ -52,6 +52,15 @@ module _ {X : Type 0} (p : X → Bool) where
   -- where the same pass, the same is first
   pub find_by_filter : (xs ys : List X) → filter p xs ≡ filter p ys → find p xs ≡ find p ys
   find_by_filter xs ys same = find_filter xs ∙ ap (find p) same ∙ sym (find_filter ys)
+
+-- the first that passes both is the first of those that pass the one
+pub find_below : {X : Type 0} (p q : X → Bool) (xs : List X) → find (λ x. p x && q x) xs ≡ find q (filter p xs)
+find_below p q [] = refl
+find_below {X} p q (x ∷ xs) =
+    (elim (p x) as (λ b. cond {A = Option X} (b && q x) (Some x) (find (λ y. p y && q y) xs) ≡ find q (cond {A = List X} b (x ∷ filter p xs) (filter p xs))) [
+      | true ↦ ap (λ rest. cond {A = Option X} (q x) (Some x) rest) (find_below p q xs)
+      | false ↦ find_below p q xs
+    ])
 
 -- where no key of a list passes, no row passes whose keys are in it
 pub none_of_all : {X K : Type 0} (q : K → Bool) (f : X → List K) (p : X → Bool) → ((x : X) → list_any q (f x) ≡ false → p x ≡ false)

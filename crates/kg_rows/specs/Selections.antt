@@ -1,5 +1,5 @@
 -- Rows as they are named from outside: by id or by word, among all of a kind or among those of a parent.
-use Rattle.std.specs.Prelude.{ℕ, ◌==◌, List, filter, find, Option, Some, None, option_map, option_and_then}
+use Rattle.std.specs.Prelude.{ℕ, Bool, false, ◌==◌, List, filter, find, Option, Some, None, option_map, option_and_then}
 use Rattle.std.specs.Option.{option_or}
 use Rattle.std.specs.Str.{bytes_eq}
 use Rattle.kg_entities.specs.Entities.{id_of_row}
@@ -11,6 +11,9 @@ use Rattle.kg_entities.specs.declared.entity.Entity.{Entity}
 use Rattle.kg_entities.specs.declared.entity.Entity.TheVariants as row
 use Rattle.kg_entities.specs.declared.entity.Kind.{Kind}
 use Rattle.kg_entities.specs.declared.entity.Kind.TheVariants as kind
+use Rattle.kg_entities.specs.declared.route.Route.{Route}
+use Rattle.kg_rows.specs.declared.place.Place.{Place}
+use Rattle.kg_rows.specs.declared.place.Place.TheVariants.{Anywhere, Under}
 use Rattle.kg_rows.specs.declared.select.Parent.{Parent}
 use Rattle.kg_rows.specs.declared.select.Select.{Select}
 use Rattle.kg_rows.specs.declared.select.Select.TheVariants.{Id, Word}
@@ -45,31 +48,42 @@ abbrev pub selected : Kind → Select → RowLists → Option Entity
 selected kind (Id id) rows = row_with_id kind id rows
 selected kind (Word text) rows = row_with_word kind text rows
 
+-- ---- rows under a parent
+
+-- the route names this service
+abbrev pub is_route_under : Kind → ℕ → Route → Bool
+is_route_under kind.Service id route = route.service == id
+is_route_under _ id route = false
+
+-- what belongs to this consumer
+abbrev pub is_owned_under : Kind → ℕ → ℕ → Bool
+is_owned_under kind.Consumer id consumer = consumer == id
+is_owned_under _ id consumer = false
+
 -- the rows that stand under a row: the routes and plugins of a service, the plugins of a route, the
--- credentials, groups and plugins of a consumer; of the other kinds all rows
+-- credentials, groups and plugins of a consumer; services and consumers stand under none
 abbrev pub rows_under : Kind → ℕ → RowLists → RowLists
-rows_under kind.Service id rows = record rows {
-  routes = filter (λ r. r.service == id) rows.routes;
-  plugins = filter (names_row kind.Service id) rows.plugins;
+rows_under kind id rows = record rows {
+  routes = filter (is_route_under kind id) rows.routes;
+  key_creds = filter (λ row. is_owned_under kind id row.consumer) rows.key_creds;
+  basic_creds = filter (λ row. is_owned_under kind id row.consumer) rows.basic_creds;
+  acls = filter (λ row. is_owned_under kind id row.consumer) rows.acls;
+  plugins = filter (names_row kind id) rows.plugins;
 }
-rows_under kind.Route id rows = record rows { plugins = filter (names_row kind.Route id) rows.plugins }
-rows_under kind.Consumer id rows = record rows {
-  key_creds = filter (λ r. r.consumer == id) rows.key_creds;
-  basic_creds = filter (λ r. r.consumer == id) rows.basic_creds;
-  acls = filter (λ r. r.consumer == id) rows.acls;
-  plugins = filter (names_row kind.Consumer id) rows.plugins;
-}
-rows_under _ id rows = rows
 
 -- the id of a parent, if it is there
 abbrev pub parent_id : Parent → RowLists → Option ℕ
 parent_id parent rows = option_map id_of_row (selected parent.kind parent.select rows)
 
--- the rows among which an item is sought: all, or those under the parent, if it is there
-abbrev pub rows_below : Option Parent → RowLists → Option RowLists
-rows_below None rows = Some rows
-rows_below (Some parent) rows = option_map (λ id. rows_under parent.kind id rows) (parent_id parent rows)
+-- where a row is asked for: under its parent, which may be missing, or among all
+abbrev pub place_of : Option Parent → RowLists → Option Place
+place_of None rows = Some Anywhere
+place_of (Some parent) rows = option_map (Under parent.kind) (parent_id parent rows)
+
+abbrev pub rows_in : Place → RowLists → RowLists
+rows_in Anywhere rows = rows
+rows_in (Under kind id) rows = rows_under kind id rows
 
 -- the row that is meant: none where the parent is missing
 abbrev pub found : Kind → Option Parent → Select → RowLists → Option Entity
-found kind parent select rows = option_and_then (selected kind select) (rows_below parent rows)
+found kind parent select rows = option_and_then (λ place. selected kind select (rows_in place rows)) (place_of parent rows)

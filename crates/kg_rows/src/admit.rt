@@ -2,11 +2,13 @@
 
 ghost use Rattle.std.specs.Prelude.{◌≡◌, ◌==◌, ◌&&◌, not};
 ghost use Rattle.std.specs.List.{list_any};
+ghost use Rattle.kg_entities.specs.Lookups.{is_text};
 ghost use Rattle.kg_entities.specs.ValidRows.{same_membership, same_place};
 ghost use Rattle.kg_rows.specs.Allowed.{is_taken, is_free, has_if_set, has_scope, has_named_rows, is_unique, is_unused, is_consistent, has_room, is_allowed};
 
 use crate::command::Command;
 use kg_entities::{AclRow, Consumer, Entity, Id, Kind, PluginRow, Route, Rows, Scope, Service};
+use kg_text::Text;
 
 /// Whether the command is allowed at these rows: an inserted row's id is new and its kind has fewer
 /// rows than the limit; an updated or deleted row is there; the rows that a row names are there; what
@@ -43,7 +45,8 @@ fn has_room(rows: &Rows, command: &Command, limit: u32) -> bool
     }
 }
 
-fn is_unused(kind: Kind, id: Id, rows: &Rows) -> bool
+/// Does no route lead to what is to be deleted?
+pub fn is_unused(kind: Kind, id: Id, rows: &Rows) -> bool
     ensures { result ≡ is_unused kind id rows.now }
 {
     match kind {
@@ -110,6 +113,16 @@ fn is_unique(row: &Entity, rows: &Rows) -> bool
     }
 }
 
+/// Is the text set to this one?
+pub fn is_text(set: &Option<Text>, text: &Text) -> bool
+    ensures { result ≡ is_text text.now set.now }
+{
+    match set {
+        Some(other) => other == text,
+        None => false,
+    }
+}
+
 fn is_service_name_free(service: &Service, rows: &Rows) -> bool
     ensures { result ≡ is_free (λ other. other.id) (λ other. other.name) service.now.id service.now.name rows.now.services }
 {
@@ -158,7 +171,8 @@ fn is_other_membership(membership: &AclRow, acls: &[AclRow]) -> bool
     acls.iter().any(|other| other.id != membership.id && is_same_membership(other, membership))
 }
 
-fn is_same_membership(a: &AclRow, b: &AclRow) -> bool
+/// One consumer in one group?
+pub fn is_same_membership(a: &AclRow, b: &AclRow) -> bool
     ensures { result ≡ same_membership a.now b.now }
 {
     a.consumer == b.consumer && a.group == b.group
@@ -170,7 +184,8 @@ fn is_place_taken(plugin: &PluginRow, plugins: &[PluginRow]) -> bool
     plugins.iter().any(|other| other.id != plugin.id && is_same_place(other, plugin))
 }
 
-fn is_same_place(a: &PluginRow, b: &PluginRow) -> bool
+/// One plugin in one scope?
+pub fn is_same_place(a: &PluginRow, b: &PluginRow) -> bool
     ensures { result ≡ same_place a.now b.now }
 {
     a.config.name().priority() == b.config.name().priority() && a.scope.is_same(&b.scope)

@@ -85,7 +85,8 @@ fn acl_of_group<'r>(rows: &'r Rows, text: &Text) -> Option<&'r AclRow>
     rows.acls().as_slice().iter().find(|row| row.group == *text)
 }
 
-fn service_row(alloc: Global, found: Option<&Service>) -> Result<Option<Entity>, NoMemory>
+/// A copy of the row that was found.
+pub fn service_row(alloc: Global, found: Option<&Service>) -> Result<Option<Entity>, NoMemory>
     ensures { IfOk result (λ row. row ≡ option_map of_row.Service (option_copied found.entry)) }
 {
     match found {
@@ -94,7 +95,8 @@ fn service_row(alloc: Global, found: Option<&Service>) -> Result<Option<Entity>,
     }
 }
 
-fn route_row(alloc: Global, found: Option<&Route>) -> Result<Option<Entity>, NoMemory>
+/// A copy of the row that was found.
+pub fn route_row(alloc: Global, found: Option<&Route>) -> Result<Option<Entity>, NoMemory>
     ensures { IfOk result (λ row. row ≡ option_map of_row.Route (option_copied found.entry)) }
 {
     match found {
@@ -103,7 +105,8 @@ fn route_row(alloc: Global, found: Option<&Route>) -> Result<Option<Entity>, NoM
     }
 }
 
-fn consumer_row(alloc: Global, found: Option<&Consumer>) -> Result<Option<Entity>, NoMemory>
+/// A copy of the row that was found.
+pub fn consumer_row(alloc: Global, found: Option<&Consumer>) -> Result<Option<Entity>, NoMemory>
     ensures { IfOk result (λ row. row ≡ option_map of_row.Consumer (option_copied found.entry)) }
 {
     match found {
@@ -112,7 +115,8 @@ fn consumer_row(alloc: Global, found: Option<&Consumer>) -> Result<Option<Entity
     }
 }
 
-fn key_cred_row(alloc: Global, found: Option<&KeyCred>) -> Result<Option<Entity>, NoMemory>
+/// A copy of the row that was found.
+pub fn key_cred_row(alloc: Global, found: Option<&KeyCred>) -> Result<Option<Entity>, NoMemory>
     ensures { IfOk result (λ row. row ≡ option_map of_row.KeyCred (option_copied found.entry)) }
 {
     match found {
@@ -121,7 +125,8 @@ fn key_cred_row(alloc: Global, found: Option<&KeyCred>) -> Result<Option<Entity>
     }
 }
 
-fn basic_cred_row(alloc: Global, found: Option<&BasicCred>) -> Result<Option<Entity>, NoMemory>
+/// A copy of the row that was found.
+pub fn basic_cred_row(alloc: Global, found: Option<&BasicCred>) -> Result<Option<Entity>, NoMemory>
     ensures { IfOk result (λ row. row ≡ option_map of_row.BasicCred (option_copied found.entry)) }
 {
     match found {
@@ -130,7 +135,8 @@ fn basic_cred_row(alloc: Global, found: Option<&BasicCred>) -> Result<Option<Ent
     }
 }
 
-fn acl_row(alloc: Global, found: Option<&AclRow>) -> Result<Option<Entity>, NoMemory>
+/// A copy of the row that was found.
+pub fn acl_row(alloc: Global, found: Option<&AclRow>) -> Result<Option<Entity>, NoMemory>
     ensures { IfOk result (λ row. row ≡ option_map of_row.Acl (option_copied found.entry)) }
 {
     match found {
@@ -139,7 +145,8 @@ fn acl_row(alloc: Global, found: Option<&AclRow>) -> Result<Option<Entity>, NoMe
     }
 }
 
-fn plugin_row(alloc: Global, found: Option<&PluginRow>) -> Result<Option<Entity>, NoMemory>
+/// A copy of the row that was found.
+pub fn plugin_row(alloc: Global, found: Option<&PluginRow>) -> Result<Option<Entity>, NoMemory>
     ensures { IfOk result (λ row. row ≡ option_map of_row.Plugin (option_copied found.entry)) }
 {
     match found {

@@ -5,21 +5,31 @@
 #![tactic(auto)]
 
 mod admit;
+mod base;
 mod candidates;
 mod change;
+mod claims;
 mod command;
+mod decision;
+mod draft;
 mod find;
 mod generations;
 mod laws;
+mod meaning;
+mod place;
+mod proposal;
 mod same;
 mod select;
 mod touched;
+mod under;
 mod value;
 mod watch;
 
 pub use crate::admit::allowed;
 pub use crate::change::apply;
 pub use crate::command::Command;
+pub use crate::decision::decide;
+pub use crate::draft::{DecideError, Draft, Refusal};
 pub use crate::find::selected;
 pub use crate::laws::last_command_changes_what_differs;
 pub use crate::select::{Parent, Select};

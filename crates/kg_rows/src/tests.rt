@@ -1,3 +1,5 @@
+mod decisions;
+
 use super::*;
 use kg_entities::{AclRow, Consumer, Entity, GenKey, Id, Key, KeyCred, Kind, Rows, Service, Value};
 use kg_text::{List, Text};

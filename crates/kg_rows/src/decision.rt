@@ -1,0 +1,195 @@
+//! What is decided of a change that is asked for.
+
+ghost use Rattle.std.specs.Prelude.{◌≡◌, Ok, IfOk, IsTrue};
+ghost use Rattle.serde_json.specs.View.{view};
+ghost use Rattle.kg_rows.specs.Allowed.{is_allowed};
+ghost use Rattle.kg_rows.specs.Decision.{Decides, IsProper, decision, deletion, insertion, patched, put_over, replaced, still_named, unless};
+ghost use Rattle.kg_rows.specs.References.{link_of};
+ghost use Rattle.kg_schema.specs.Bases as base_again;
+ghost use Rattle.kg_schema.specs.Bases.{made_at};
+ghost use Rattle.kg_entities.specs.Entities.{id_of_row};
+ghost use Rattle.kg_rows.specs.Selections.{rows_in, selected};
+ghost use Rattle.kg_rows.specs.declared.command.Command.TheVariants as command;
+
+use crate::admit::is_unused;
+use crate::base::{base_by, made_at};
+use crate::command::Command;
+use crate::draft::{DecideError, Draft, Refusal};
+use crate::place::{Place, link_of, place_of, selected_in};
+use crate::proposal::{inserted, replaced};
+use crate::select::{Parent, Select};
+use kg_entities::{Entity, Id, Kind, Rows};
+use kg_schema::{Base, Form, Links};
+use kg_text::{NoMemory, Text};
+use std::alloc::Global;
+
+/// The command that makes the change, or why it is refused: the first refusal in the order of
+/// `specs/Decision.antt`. What it gives is allowed. It never answers [`Refusal::HistoryFull`].
+pub fn decide(alloc: Global, rows: &Rows, draft: &Draft, limit: u32) -> Result<Command, DecideError>
+    requires { IsProper draft.now }
+    ensures decision { Decides result (decision rows.now draft.now limit) }
+    ensures allowed { IfOk result (λ command. IsTrue (is_allowed rows.now command limit)) }
+{
+    decided(alloc, rows, draft, limit)
+}
+
+fn decided(alloc: Global, rows: &Rows, draft: &Draft, limit: u32) -> Result<Command, DecideError>
+    requires { IsProper draft.now }
+    ensures { Decides result (decision rows.now draft.now limit) }
+{
+    match draft {
+        Draft::Insert {
+            parent,
+            form,
+            id,
+            now,
+            ..
+        } => insertion(alloc, rows, parent, form, *id, *now, limit),
+        Draft::Patch {
+            kind,
+            parent,
+            select,
+            form,
+            now,
+        } => patched(alloc, rows, *kind, parent, select, form, *now),
+        Draft::Put {
+            kind,
+            parent,
+            select,
+            form,
+            id,
+            now,
+        } => match place_of(alloc, rows, parent)? {
+            Some(place) => put(alloc, rows, *kind, &place, select, form, *id, *now, limit),
+            None => Err(DecideError::Refused(Refusal::NotFound)),
+        },
+        Draft::Delete {
+            kind,
+            parent,
+            select,
+        } => deletion(alloc, rows, *kind, parent, select),
+    }
+}
+
+fn insertion(
+    alloc: Global,
+    rows: &Rows,
+    parent: &Option<Parent>,
+    form: &Form,
+    id: Id,
+    now: u64,
+    limit: u32,
+) -> Result<Command, DecideError>
+    ensures { Decides result (insertion rows.now form.now.kind parent.now (view form.now.body) id now limit) }
+{
+    match place_of(alloc, rows, parent)? {
+        Some(place) => {
+            let base = Base::New { id, now };
+            let above = link_of(&place);
+            inserted(alloc, rows, form, &base, &above, limit)
+        }
+        None => Err(DecideError::Refused(Refusal::NotFound)),
+    }
+}
+
+fn patched(
+    alloc: Global,
+    rows: &Rows,
+    kind: Kind,
+    parent: &Option<Parent>,
+    select: &Select,
+    form: &Form,
+    now: u64,
+) -> Result<Command, DecideError>
+    requires { form.now.kind ≡ kind }
+    ensures { Decides result (patched rows.now kind parent.now select.now (view form.now.body) now) }
+{
+    match place_of(alloc, rows, parent)? {
+        Some(place) => match selected_in(alloc, rows, kind, &place, select)? {
+            Some(old) => {
+                let id = old.id();
+                let base = Base::Old { row: &old, now };
+                let above = link_of(&place);
+                replaced(alloc, rows, form, &base, &above, id)
+            }
+            None => Err(DecideError::Refused(Refusal::NotFound)),
+        },
+        None => Err(DecideError::Refused(Refusal::NotFound)),
+    }
+}
+
+fn put(
+    alloc: Global,
+    rows: &Rows,
+    kind: Kind,
+    place: &Place,
+    select: &Select,
+    form: &Form,
+    id: Id,
+    now: u64,
+    limit: u32,
+) -> Result<Command, DecideError>
+    requires { form.now.kind ≡ kind }
+    ensures { Decides result (put_over rows.now kind select.now (view form.now.body) (link_of place.now) id now limit (selected kind select.now (rows_in place.now rows.now))) }
+{
+    let above = link_of(place);
+    match selected_in(alloc, rows, kind, place, select)? {
+        Some(old) => put_again(alloc, rows, form, &above, &old, now),
+        None => match base_by(alloc, kind, select, id, now) {
+            Ok(Some(base)) => inserted(alloc, rows, form, &base, &above, limit),
+            Ok(None) => Err(DecideError::Refused(Refusal::NotFound)),
+            Err(NoMemory) => Err(DecideError::NoMemory),
+        },
+    }
+}
+
+// Makes a row again: its id and its creation stay.
+fn put_again(
+    alloc: Global,
+    rows: &Rows,
+    form: &Form,
+    above: &Links,
+    old: &Entity,
+    now: u64,
+) -> Result<Command, DecideError>
+    ensures { Decides result (replaced rows.now form.now.kind (view form.now.body) (base_again.Again (id_of_row old.now) (made_at old.now) now) above.now (id_of_row old.now)) }
+{
+    let id = old.id();
+    let created_at = made_at(old);
+    let base = Base::Again {
+        id,
+        created_at,
+        now,
+    };
+    replaced(alloc, rows, form, &base, above, id)
+}
+
+fn deletion(
+    alloc: Global,
+    rows: &Rows,
+    kind: Kind,
+    parent: &Option<Parent>,
+    select: &Select,
+) -> Result<Command, DecideError>
+    ensures { Decides result (deletion rows.now kind parent.now select.now) }
+{
+    match place_of(alloc, rows, parent)? {
+        Some(place) => match selected_in(alloc, rows, kind, &place, select)? {
+            Some(old) => deleted(alloc, rows, kind, old.id()),
+            None => Err(DecideError::Refused(Refusal::NotFound)),
+        },
+        None => Err(DecideError::Refused(Refusal::NotFound)),
+    }
+}
+
+fn deleted(alloc: Global, rows: &Rows, kind: Kind, id: Id) -> Result<Command, DecideError>
+    ensures { Decides result (unless (still_named kind id rows.now) (Ok (command.Delete kind id))) }
+{
+    if is_unused(kind, id, rows) {
+        return Ok(Command::Delete { kind, id });
+    }
+    Err(DecideError::Refused(Refusal::Foreign {
+        field: Text::from_str(alloc, "routes")?,
+        present: true,
+    }))
+}

@@ -1,0 +1,250 @@
+//! Rows that stand under another row.
+
+ghost use Rattle.std.specs.Prelude.{◌≡◌, ℕ, ◌==◌, ◌&&◌, Bool, false, List as Sequence, IfOk, filter, find, option_map};
+ghost use Rattle.std.specs.Option.{option_copied};
+ghost use Rattle.std.specs.Str.{bytes_eq};
+ghost use Rattle.kg_entities.specs.Lookups.{is_text};
+ghost use Rattle.kg_entities.specs.RowChanges.{names_row};
+ghost use Rattle.kg_entities.specs.declared.entity.Entity.TheVariants as of_row;
+ghost use Rattle.kg_entities.specs.declared.entity.Kind.{Kind as Upper};
+ghost use Rattle.kg_rows.specs.Selections.{is_owned_under, is_route_under, key_cred_of_word, row_with_id, row_with_word, rows_under, selected};
+
+use crate::find::{
+    acl_row, basic_cred_row, consumer_row, key_cred_row, plugin_row, route_row, service_row,
+};
+use crate::select::Select;
+use kg_entities::{AclRow, BasicCred, Entity, Id, KeyCred, Kind, PluginRow, Route, Row, Rows};
+use kg_text::{NoMemory, Text};
+use std::alloc::Global;
+
+/// Rows of a kind of which some stand under other rows.
+trait Below: Row {
+    ghost below: { Upper → ℕ → Self → Bool };
+
+    ghost worded: { Sequence ℕ → Self → Bool };
+
+    /// Does the row stand under the one of this kind and id?
+    fn is_below(&self, upper: Kind, above: Id) -> bool
+        ensures { result ≡ below upper above self.now };
+
+    /// Is this the row's name, key, username or group?
+    fn has_word(&self, text: &Text) -> bool
+        ensures { result ≡ worded text.now self.now };
+}
+
+impl Below for Route {
+    ghost below = { is_route_under };
+
+    ghost worded = { λ text row. is_text text row.name };
+
+    fn is_below(&self, upper: Kind, above: Id) -> bool {
+        match upper {
+            Kind::Service => self.service == above,
+            Kind::Route => false,
+            Kind::Consumer => false,
+            Kind::KeyCred => false,
+            Kind::BasicCred => false,
+            Kind::Acl => false,
+            Kind::Plugin => false,
+        }
+    }
+
+    fn has_word(&self, text: &Text) -> bool {
+        match &self.name {
+            Some(name) => name == text,
+            None => false,
+        }
+    }
+}
+
+impl Below for KeyCred {
+    ghost below = { λ upper above row. is_owned_under upper above row.consumer };
+
+    ghost worded = { λ text row. bytes_eq row.key text };
+
+    fn is_below(&self, upper: Kind, above: Id) -> bool {
+        is_owned_under(upper, above, self.consumer)
+    }
+
+    fn has_word(&self, text: &Text) -> bool {
+        self.key == *text
+    }
+}
+
+impl Below for BasicCred {
+    ghost below = { λ upper above row. is_owned_under upper above row.consumer };
+
+    ghost worded = { λ text row. bytes_eq row.username text };
+
+    fn is_below(&self, upper: Kind, above: Id) -> bool {
+        is_owned_under(upper, above, self.consumer)
+    }
+
+    fn has_word(&self, text: &Text) -> bool {
+        self.username == *text
+    }
+}
+
+impl Below for AclRow {
+    ghost below = { λ upper above row. is_owned_under upper above row.consumer };
+
+    ghost worded = { λ text row. bytes_eq row.group text };
+
+    fn is_below(&self, upper: Kind, above: Id) -> bool {
+        is_owned_under(upper, above, self.consumer)
+    }
+
+    fn has_word(&self, text: &Text) -> bool {
+        self.group == *text
+    }
+}
+
+impl Below for PluginRow {
+    ghost below = { names_row };
+
+    ghost worded = { λ text row. false };
+
+    fn is_below(&self, upper: Kind, above: Id) -> bool {
+        self.scope.names(upper, above)
+    }
+
+    fn has_word(&self, _: &Text) -> bool {
+        false
+    }
+}
+
+// Is a consumer the row under which this is asked for?
+fn is_owned_under(upper: Kind, above: Id, consumer: Id) -> bool
+    ensures { result ≡ is_owned_under upper above consumer }
+{
+    match upper {
+        Kind::Consumer => consumer == above,
+        Kind::Service => false,
+        Kind::Route => false,
+        Kind::KeyCred => false,
+        Kind::BasicCred => false,
+        Kind::Acl => false,
+        Kind::Plugin => false,
+    }
+}
+
+/// The row of a kind that is meant, among those that stand under a row.
+pub fn selected_under(
+    alloc: Global,
+    rows: &Rows,
+    kind: Kind,
+    upper: Kind,
+    above: Id,
+    select: &Select,
+) -> Result<Option<Entity>, NoMemory>
+    ensures { IfOk result (λ row. row ≡ selected kind select.now (rows_under upper above rows.now)) }
+{
+    match select {
+        Select::Id(id) => row_with_id(alloc, rows, kind, upper, above, *id),
+        Select::Word(text) => row_with_word(alloc, rows, kind, upper, above, text),
+    }
+}
+
+fn row_with_id(
+    alloc: Global,
+    rows: &Rows,
+    kind: Kind,
+    upper: Kind,
+    above: Id,
+    id: Id,
+) -> Result<Option<Entity>, NoMemory>
+    ensures { IfOk result (λ row. row ≡ row_with_id kind id (rows_under upper above rows.now)) }
+{
+    match kind {
+        Kind::Service => service_row(alloc, rows.services().get(id)),
+        Kind::Route => route_row(alloc, with_id(rows.routes().as_slice(), upper, above, id)),
+        Kind::Consumer => consumer_row(alloc, rows.consumers().get(id)),
+        Kind::KeyCred => {
+            key_cred_row(alloc, with_id(rows.key_creds().as_slice(), upper, above, id))
+        }
+        Kind::BasicCred => {
+            basic_cred_row(alloc, with_id(rows.basic_creds().as_slice(), upper, above, id))
+        }
+        Kind::Acl => acl_row(alloc, with_id(rows.acls().as_slice(), upper, above, id)),
+        Kind::Plugin => plugin_row(alloc, with_id(rows.plugins().as_slice(), upper, above, id)),
+    }
+}
+
+fn row_with_word(
+    alloc: Global,
+    rows: &Rows,
+    kind: Kind,
+    upper: Kind,
+    above: Id,
+    text: &Text,
+) -> Result<Option<Entity>, NoMemory>
+    ensures { IfOk result (λ row. row ≡ row_with_word kind text.now (rows_under upper above rows.now)) }
+{
+    match kind {
+        Kind::Service => service_row(alloc, rows.service_named(text)),
+        Kind::Route => route_row(alloc, with_word(rows.routes().as_slice(), upper, above, text)),
+        Kind::Consumer => consumer_row(alloc, rows.consumer_with_username(text)),
+        Kind::KeyCred => key_cred_row(alloc, key_cred_of_word(rows, upper, above, text)),
+        Kind::BasicCred => {
+            basic_cred_row(alloc, with_word(rows.basic_creds().as_slice(), upper, above, text))
+        }
+        Kind::Acl => acl_row(alloc, with_word(rows.acls().as_slice(), upper, above, text)),
+        Kind::Plugin => Ok(None),
+    }
+}
+
+// The key credential with this id, where the text tells one and such a row is there, else with this key.
+fn key_cred_of_word<'r>(
+    rows: &'r Rows,
+    upper: Kind,
+    above: Id,
+    text: &Text,
+) -> Option<&'r KeyCred>
+    ensures { option_map of_row.KeyCred (option_copied result) ≡ key_cred_of_word text.now (rows_under upper above rows.now) }
+{
+    if let Some(id) = Id::parse(text.as_bytes()) {
+        if let Some(found) = key_cred_with_id(rows, upper, above, id) {
+            return Some(found);
+        }
+    }
+    with_word(rows.key_creds().as_slice(), upper, above, text)
+}
+
+fn key_cred_with_id(rows: &Rows, upper: Kind, above: Id, id: Id) -> Option<&KeyCred>
+    ensures { option_copied result ≡ find (λ row. row.id == id) (filter (λ row. is_owned_under upper above row.consumer) rows.now.key_creds) }
+{
+    with_id(rows.key_creds().as_slice(), upper, above, id)
+}
+
+// The row with this id among those under a row.
+fn with_id<T: Below>(rows: &[T], upper: Kind, above: Id, id: Id) -> Option<&T>
+    ensures { option_copied result ≡ find (λ row. T.number row == id) (filter (T.below upper above) rows.now) }
+{
+    below_with_id(rows, upper, above, id)
+}
+
+fn below_with_id<T: Below>(rows: &[T], upper: Kind, above: Id, id: Id) -> Option<&T>
+    ensures { option_copied result ≡ find (λ row. T.below upper above row && T.number row == id) rows.now }
+{
+    rows.iter()
+        .find(|row| row.is_below(upper, above) && row.id() == id)
+}
+
+// The first row with this word among those under a row.
+fn with_word<'r, T: Below>(rows: &'r [T], upper: Kind, above: Id, text: &Text) -> Option<&'r T>
+    ensures { option_copied result ≡ find (T.worded text.now) (filter (T.below upper above) rows.now) }
+{
+    below_with_word(rows, upper, above, text)
+}
+
+fn below_with_word<'r, T: Below>(
+    rows: &'r [T],
+    upper: Kind,
+    above: Id,
+    text: &Text,
+) -> Option<&'r T>
+    ensures { option_copied result ≡ find (λ row. T.below upper above row && T.worded text.now row) rows.now }
+{
+    rows.iter()
+        .find(|row| row.is_below(upper, above) && row.has_word(text))
+}
