@@ -33,10 +33,16 @@ use Rattle.kg_schema.specs.declared.base.Links.{Links}
 
 -- ---- answers
 
-ok_is : {A : Type 0} {x y : A} → Ok {E = Refusal} x ≡ Ok y → x ≡ y
+abbrev answered : {A : Type 0} → A → Result A Refusal
+answered x = Ok x
+
+abbrev refusing : {A : Type 0} → Refusal → Result A Refusal
+refusing e = Err e
+
+ok_is : {A : Type 0} {x y : A} → answered x ≡ answered y → x ≡ y
 ok_is {A} {x} same = ap (λ r. elim r [ Ok z ↦ z | Err e ↦ x ]) same
 
-refused_is_not_ok : {A : Type 0} {e : Refusal} {y : A} → Err {T = A} e ≡ Ok y → false ≡ true
+refused_is_not_ok : {A : Type 0} {e : Refusal} {y : A} → refusing e ≡ answered y → false ≡ true
 refused_is_not_ok same = ap (λ r. elim r [ Ok z ↦ true | Err e ↦ false ]) same
 
 unless_none : {A : Type 0} (o : Option Refusal) (r : Result A Refusal) (y : A) → unless o r ≡ Ok y → o ≡ None
