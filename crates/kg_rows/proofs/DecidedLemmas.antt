@@ -33,10 +33,16 @@ use Rattle.kg_schema.specs.declared.base.Links.{Links}
 
 -- ---- answers
 
-ok_is : {A : Type 0} {x y : A} → Ok {E = Refusal} x ≡ Ok y → x ≡ y
+abbrev answered : {A : Type 0} → A → Result A Refusal
+answered x = Ok x
+
+abbrev refusing : {A : Type 0} → Refusal → Result A Refusal
+refusing e = Err e
+
+ok_is : {A : Type 0} {x y : A} → answered x ≡ answered y → x ≡ y
 ok_is {A} {x} same = ap (λ r. elim r [ Ok z ↦ z | Err e ↦ x ]) same
 
-refused_is_not_ok : {A : Type 0} {e : Refusal} {y : A} → Err {T = A} e ≡ Ok y → false ≡ true
+refused_is_not_ok : {A : Type 0} {e : Refusal} {y : A} → refusing e ≡ answered y → false ≡ true
 refused_is_not_ok same = ap (λ r. elim r [ Ok z ↦ true | Err e ↦ false ]) same
 
 unless_none : {A : Type 0} (o : Option Refusal) (r : Result A Refusal) (y : A) → unless o r ≡ Ok y → o ≡ None
@@ -109,8 +115,8 @@ module _ (rows : RowLists) (of_kind : Kind) (body : Data) (base : BaseValue) (ab
   new_row_is_allowed : IsFit rows new_row None → full of_kind rows limit ≡ None → is_allowed rows (command.Insert new_row) limit ≡ true
   new_row_is_allowed fit room =
       ap₂ (λ p q. p && q)
-        (three _ _ _ (ap not (has_new_id rows new_row fit.free)) fit.named (is_unique_row rows None new_row (covers_new (id_of_row new_row)) fit.free))
-        (ap (λ k. nat_lt (count_of k rows) limit) (kind_over of_kind body base (links_in above (meant_in body rows))) ∙ room_left (nat_lt (count_of of_kind rows) limit) room)
+      (three _ _ _ (ap not (has_new_id rows new_row fit.free)) fit.named (is_unique_row rows None new_row (covers_new (id_of_row new_row)) fit.free))
+      (ap (λ k. nat_lt (count_of k rows) limit) (kind_over of_kind body base (links_in above (meant_in body rows))) ∙ room_left (nat_lt (count_of of_kind rows) limit) room)
 
   inserted_is_allowed : (done : Command) → inserted rows of_kind body base above limit ≡ Ok done → is_allowed rows done limit ≡ true
   unfolding inserted
@@ -120,7 +126,7 @@ module _ (rows : RowLists) (of_kind : Kind) (body : Data) (base : BaseValue) (ab
       let is : command.Insert parts.0 ≡ done = ok_is (unless_rest (full of_kind rows limit) (Ok (command.Insert parts.0)) done parts.2) in
       let same_row : new_row ≡ parts.0 = is_made rows of_kind body base above None parts.0 parts.1 in
       subst (λ c. is_allowed rows c limit ≡ true) (ap command.Insert same_row ∙ is)
-        (new_row_is_allowed (is_fit rows of_kind body base above None parts.0 parts.1) room)
+      (new_row_is_allowed (is_fit rows of_kind body base above None parts.0 parts.1) room)
 
 -- ---- rows in the place of others
 
@@ -131,10 +137,10 @@ module _ (rows : RowLists) (of_kind : Kind) (body : Data) (base : BaseValue) (ab
   other_row_is_allowed : (limit : ℕ) → id_of_row other_row ≡ id → has_row of_kind id rows ≡ true → IsFit rows other_row (Some id) → is_allowed rows (command.Update other_row) limit ≡ true
   other_row_is_allowed limit same_id there fit =
       ap (λ p. p && true)
-        (three _ _ _
-          (ap₂ (λ k i. has_row k i rows) (kind_over of_kind body base (links_in above (meant_in body rows))) same_id ∙ there)
-          fit.named
-          (is_unique_row rows (Some id) other_row (subst (λ i. CoversOthers (Some id) i) (sym same_id) (covers_old id)) fit.free))
+      (three _ _ _
+      (ap₂ (λ k i. has_row k i rows) (kind_over of_kind body base (links_in above (meant_in body rows))) same_id ∙ there)
+      fit.named
+      (is_unique_row rows (Some id) other_row (subst (λ i. CoversOthers (Some id) i) (sym same_id) (covers_old id)) fit.free))
 
   replaced_is_allowed : (limit : ℕ) (done : Command) → id_of_row other_row ≡ id → has_row of_kind id rows ≡ true → replaced rows of_kind body base above id ≡ Ok done → is_allowed rows done limit ≡ true
   unfolding replaced
@@ -142,7 +148,7 @@ module _ (rows : RowLists) (of_kind : Kind) (body : Data) (base : BaseValue) (ab
       let parts = then_parts (proposed rows of_kind body base above (Some id)) (λ new. Ok (command.Update new)) done same in
       let same_row : other_row ≡ parts.0 = is_made rows of_kind body base above (Some id) parts.0 parts.1 in
       subst (λ c. is_allowed rows c limit ≡ true) (ap command.Update same_row ∙ ok_is parts.2)
-        (other_row_is_allowed limit same_id there (is_fit rows of_kind body base above (Some id) parts.0 parts.1))
+      (other_row_is_allowed limit same_id there (is_fit rows of_kind body base above (Some id) parts.0 parts.1))
 
 -- ---- drafts
 
@@ -158,18 +164,18 @@ patched_is_allowed rows of_kind parent select body now limit done same =
     let parts = needed_parts (place_of parent rows) (λ place. needed (selected of_kind select (rows_in place rows)) (λ old. replaced rows of_kind body (Old old now) (link_of place) (id_of_row old))) done same in
     let further = needed_parts (selected of_kind select (rows_in parts.0 rows)) (λ old. replaced rows of_kind body (Old old now) (link_of parts.0) (id_of_row old)) done parts.2 in
     replaced_is_allowed rows of_kind body (Old further.0 now) (link_of parts.0) (id_of_row further.0) limit done
-      (id_over_old of_kind body further.0 now (links_in (link_of parts.0) (meant_in body rows)))
-      (is_there rows parts.0 of_kind select further.0 further.1)
-      further.2
+    (id_over_old of_kind body further.0 now (links_in (link_of parts.0) (meant_in body rows)))
+    (is_there rows parts.0 of_kind select further.0 further.1)
+    further.2
 
 put_over_is_allowed : (rows : RowLists) (place : Place) (of_kind : Kind) (select : Select) (body : Data) (id now limit : ℕ) (done : Command) (old : Option Entity)
     → selected of_kind select (rows_in place rows) ≡ old
     → put_over rows of_kind select body (link_of place) id now limit old ≡ Ok done → is_allowed rows done limit ≡ true
 put_over_is_allowed rows place of_kind select body id now limit done (Some old) found same =
     replaced_is_allowed rows of_kind body (Again (id_of_row old) (made_at old) now) (link_of place) (id_of_row old) limit done
-      (id_over_again of_kind body (id_of_row old) (made_at old) now (links_in (link_of place) (meant_in body rows)))
-      (is_there rows place of_kind select old found)
-      same
+    (id_over_again of_kind body (id_of_row old) (made_at old) now (links_in (link_of place) (meant_in body rows)))
+    (is_there rows place of_kind select old found)
+    same
 put_over_is_allowed rows place of_kind select body id now limit done None found same =
     let parts = needed_parts (base_by of_kind select id now) (λ new. inserted rows of_kind body new (link_of place) limit) done same in
     inserted_is_allowed rows of_kind body parts.0 (link_of place) limit done parts.2
@@ -192,7 +198,7 @@ deletion_is_allowed rows of_kind parent select limit done same =
     let gone : Command = command.Delete of_kind (id_of_row further.0) in
     let unused : is_unused of_kind (id_of_row further.0) rows ≡ true = not_named _ _ (unless_none (still_named of_kind (id_of_row further.0) rows) (Ok gone) done further.2) in
     subst (λ c. is_allowed rows c limit ≡ true) (ok_is (unless_rest (still_named of_kind (id_of_row further.0) rows) (Ok gone) done further.2))
-      (ap (λ p. p && true) (ap₂ (λ p q. p && q) (is_there rows parts.0 of_kind select further.0 further.1) unused))
+    (ap (λ p. p && true) (ap₂ (λ p q. p && q) (is_there rows parts.0 of_kind select further.0 further.1) unused))
 
 pub is_allowed_if_decided : (rows : RowLists) (draft : Draft) (limit : ℕ) (done : Command) → decision rows draft limit ≡ Ok done → is_allowed rows done limit ≡ true
 is_allowed_if_decided rows (Insert of_kind parent form id now) limit done same = insertion_is_allowed rows of_kind parent (view form.body) id now limit done same

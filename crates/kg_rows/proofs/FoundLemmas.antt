@@ -58,9 +58,9 @@ among_all {X} p q (x ∷ xs) some =
       | false ↦ λ holds. or_back (p x) (list_any p xs) (among_all p q xs holds)
     ]) some
   where
-  first_or_later : (a b c : Bool) → (b ≡ true → c ≡ true) → (a || b) ≡ true → (a || c) ≡ true
-  first_or_later true b c next holds = refl
-  first_or_later false b c next holds = next holds
+    first_or_later : (a b c : Bool) → (b ≡ true → c ≡ true) → (a || b) ≡ true → (a || c) ≡ true
+    first_or_later true b c next holds = refl
+    first_or_later false b c next holds = next holds
 
 -- a row that a search gives, as a row of any kind
 found_there : {X : Type 0} (f : X → Entity) (number : X → ℕ) → ((x : X) → number x ≡ id_of_row (f x)) → (p : X → Bool) (xs : List X) (old : Entity)
@@ -85,13 +85,13 @@ module _ (rows : RowLists) (old : Entity) where
   there_by_id kind.Acl id is = found_there {X = AclRow} row.Acl (λ r. r.id) (λ r. refl) (λ r. r.id == id) rows.acls old is
   there_by_id kind.Plugin id is = found_there {X = PluginRow} row.Plugin (λ r. r.id) (λ r. refl) (λ r. r.id == id) rows.plugins old is
 
-  there_by_key : (text : List ℕ) (told : Option ℕ) → option_or (option_and_then (λ id. row_with_id kind.KeyCred id rows) told) (option_map row.KeyCred (find {A = KeyCred} (λ r. bytes_eq r.key text) rows.key_creds)) ≡ Some old
+  there_by_key : (text : List ℕ) (told : Option ℕ) → option_or (option_and_then (λ id. row_with_id kind.KeyCred id rows) told) (option_map row.KeyCred (find {X = KeyCred} (λ r. bytes_eq r.key text) rows.key_creds)) ≡ Some old
       → has_row kind.KeyCred (id_of_row old) rows ≡ true
   there_by_key text None is = found_there {X = KeyCred} row.KeyCred (λ r. r.id) (λ r. refl) (λ r. bytes_eq r.key text) rows.key_creds old is
   there_by_key text (Some id) is =
       ⊎_elim (λ by_id. there_by_id kind.KeyCred id by_id)
-        (λ by_key. found_there {X = KeyCred} row.KeyCred (λ r. r.id) (λ r. refl) (λ r. bytes_eq r.key text) rows.key_creds old by_key)
-        (either (row_with_id kind.KeyCred id rows) (option_map row.KeyCred (find {A = KeyCred} (λ r. bytes_eq r.key text) rows.key_creds)) old is)
+      (λ by_key. found_there {X = KeyCred} row.KeyCred (λ r. r.id) (λ r. refl) (λ r. bytes_eq r.key text) rows.key_creds old by_key)
+      (either (row_with_id kind.KeyCred id rows) (option_map row.KeyCred (find {X = KeyCred} (λ r. bytes_eq r.key text) rows.key_creds)) old is)
 
   there_by_word : (of_kind : Kind) (text : List ℕ) → row_with_word of_kind text rows ≡ Some old → has_row of_kind (id_of_row old) rows ≡ true
   there_by_word kind.Service text is = found_there {X = Service} row.Service (λ r. r.id) (λ r. refl) (λ r. is_text text r.name) rows.services old is

@@ -139,13 +139,13 @@ module _ (rows : RowLists) (replaced : Option ℕ) where
   service_free new covers none =
       let found : Option ℕ = text_holder {X = Service} (λ other. other.id) (λ other. other.name) replaced new.name rows.services in
       free_text {X = Service} (λ other. other.id) (λ other. other.name) replaced new.id covers new.name rows.services
-        (untaken (codes "name") found (or_second (id_claim kind.Service new.id) (taken (codes "name") found) none))
+      (untaken (codes "name") found (or_second (id_claim kind.Service new.id) (taken (codes "name") found) none))
 
   route_free : (new : Route) → CoversOthers replaced new.id → claimed (row.Route new) replaced rows ≡ None → is_unique (row.Route new) rows ≡ true
   route_free new covers none =
       let found : Option ℕ = text_holder {X = Route} (λ other. other.id) (λ other. other.name) replaced new.name rows.routes in
       free_text {X = Route} (λ other. other.id) (λ other. other.name) replaced new.id covers new.name rows.routes
-        (untaken (codes "name") found (or_second (id_claim kind.Route new.id) (taken (codes "name") found) none))
+      (untaken (codes "name") found (or_second (id_claim kind.Route new.id) (taken (codes "name") found) none))
 
   consumer_free : (new : Consumer) → CoversOthers replaced new.id → claimed (row.Consumer new) replaced rows ≡ None → is_unique (row.Consumer new) rows ≡ true
   consumer_free new covers none =
@@ -154,34 +154,34 @@ module _ (rows : RowLists) (replaced : Option ℕ) where
       let rest : Option (List ℕ × ℕ) = option_or (id_claim kind.Consumer new.id) (taken (codes "username") name) in
       let later : rest ≡ None = or_second (taken (codes "custom_id") custom) rest none in
       ap₂ (λ p q. p && q)
-        (free_text {X = Consumer} (λ other. other.id) (λ other. other.username) replaced new.id covers new.username rows.consumers
-          (untaken (codes "username") name (or_second (id_claim kind.Consumer new.id) (taken (codes "username") name) later)))
-        (free_text {X = Consumer} (λ other. other.id) (λ other. other.custom_id) replaced new.id covers new.custom_id rows.consumers
-          (untaken (codes "custom_id") custom (or_first (taken (codes "custom_id") custom) rest none)))
+      (free_text {X = Consumer} (λ other. other.id) (λ other. other.username) replaced new.id covers new.username rows.consumers
+      (untaken (codes "username") name (or_second (id_claim kind.Consumer new.id) (taken (codes "username") name) later)))
+      (free_text {X = Consumer} (λ other. other.id) (λ other. other.custom_id) replaced new.id covers new.custom_id rows.consumers
+      (untaken (codes "custom_id") custom (or_first (taken (codes "custom_id") custom) rest none)))
 
   key_free : (new : KeyCred) → CoversOthers replaced new.id → claimed (row.KeyCred new) replaced rows ≡ None → is_unique (row.KeyCred new) rows ≡ true
   key_free new covers none =
       let found : Option ℕ = holder {X = KeyCred} (λ other. other.id) replaced (λ other. bytes_eq other.key new.key) rows.key_creds in
       free_test {X = KeyCred} (λ other. other.id) replaced new.id covers (λ other. bytes_eq other.key new.key) rows.key_creds
-        (untaken (codes "key") found (or_second (id_claim kind.KeyCred new.id) (taken (codes "key") found) none))
+      (untaken (codes "key") found (or_second (id_claim kind.KeyCred new.id) (taken (codes "key") found) none))
 
   login_free : (new : BasicCred) → CoversOthers replaced new.id → claimed (row.BasicCred new) replaced rows ≡ None → is_unique (row.BasicCred new) rows ≡ true
   login_free new covers none =
       let found : Option ℕ = holder {X = BasicCred} (λ other. other.id) replaced (λ other. bytes_eq other.username new.username) rows.basic_creds in
       free_test {X = BasicCred} (λ other. other.id) replaced new.id covers (λ other. bytes_eq other.username new.username) rows.basic_creds
-        (untaken (codes "username") found (or_second (id_claim kind.BasicCred new.id) (taken (codes "username") found) none))
+      (untaken (codes "username") found (or_second (id_claim kind.BasicCred new.id) (taken (codes "username") found) none))
 
   group_free : (new : AclRow) → CoversOthers replaced new.id → claimed (row.Acl new) replaced rows ≡ None → is_unique (row.Acl new) rows ≡ true
   group_free new covers none =
       let found : Option ℕ = holder {X = AclRow} (λ other. other.id) replaced (λ other. same_membership other new) rows.acls in
       free_test {X = AclRow} (λ other. other.id) replaced new.id covers (λ other. same_membership other new) rows.acls
-        (untaken (codes "group") found (or_first (taken (codes "group") found) (id_claim kind.Acl new.id) none))
+      (untaken (codes "group") found (or_first (taken (codes "group") found) (id_claim kind.Acl new.id) none))
 
   place_free : (new : PluginRow) → CoversOthers replaced new.id → claimed (row.Plugin new) replaced rows ≡ None → is_unique (row.Plugin new) rows ≡ true
   place_free new covers none =
       let found : Option ℕ = holder {X = PluginRow} (λ other. other.id) replaced (λ other. same_place other new) rows.plugins in
       free_test {X = PluginRow} (λ other. other.id) replaced new.id covers (λ other. same_place other new) rows.plugins
-        (untaken (codes "name") found (or_second (id_claim kind.Plugin new.id) (taken (codes "name") found) none))
+      (untaken (codes "name") found (or_second (id_claim kind.Plugin new.id) (taken (codes "name") found) none))
 
   pub is_unique_row : (new : Entity) → CoversOthers replaced (id_of_row new) → claimed new replaced rows ≡ None → is_unique new rows ≡ true
   is_unique_row (row.Service new) covers none = service_free new covers none
@@ -212,7 +212,7 @@ module _ (rows : RowLists) where
   id_claim_of (row.Consumer new) none =
       let name : Option (List ℕ × ℕ) = taken (codes "username") (text_holder {X = Consumer} (λ other. other.id) (λ other. other.username) None new.username rows.consumers) in
       or_first (new_claim kind.Consumer new.id) name
-        (or_second (taken (codes "custom_id") (text_holder {X = Consumer} (λ other. other.id) (λ other. other.custom_id) None new.custom_id rows.consumers)) (option_or (new_claim kind.Consumer new.id) name) none)
+      (or_second (taken (codes "custom_id") (text_holder {X = Consumer} (λ other. other.id) (λ other. other.custom_id) None new.custom_id rows.consumers)) (option_or (new_claim kind.Consumer new.id) name) none)
   id_claim_of (row.KeyCred new) none = or_first (new_claim kind.KeyCred new.id) (taken (codes "key") (holder {X = KeyCred} (λ other. other.id) None (λ other. bytes_eq other.key new.key) rows.key_creds)) none
   id_claim_of (row.BasicCred new) none = or_first (new_claim kind.BasicCred new.id) (taken (codes "username") (holder {X = BasicCred} (λ other. other.id) None (λ other. bytes_eq other.username new.username) rows.basic_creds)) none
   id_claim_of (row.Acl new) none = or_second (taken (codes "group") (holder {X = AclRow} (λ other. other.id) None (λ other. same_membership other new) rows.acls)) (new_claim kind.Acl new.id) none

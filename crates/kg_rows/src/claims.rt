@@ -143,9 +143,7 @@ fn service_with_name<'r>(
 ) -> Option<&'r Service>
     ensures { option_copied result ≡ find (λ other. is_other replaced other.id && is_text name.now other.name) services.now }
 {
-    services
-        .iter()
-        .find(|other| is_other(replaced, other.id) && is_text(&other.name, name))
+    services.iter().find(|other| is_other(replaced, other.id) && is_text(&other.name, name))
 }
 
 fn named_route(rows: &Rows, replaced: Option<Id>, route: &Route) -> Option<Id>
@@ -163,16 +161,10 @@ fn route_name_holder(rows: &Rows, replaced: Option<Id>, name: &Text) -> Option<I
     id_of(route_with_name(rows.routes().as_slice(), replaced, name))
 }
 
-fn route_with_name<'r>(
-    routes: &'r [Route],
-    replaced: Option<Id>,
-    name: &Text,
-) -> Option<&'r Route>
+fn route_with_name<'r>(routes: &'r [Route], replaced: Option<Id>, name: &Text) -> Option<&'r Route>
     ensures { option_copied result ≡ find (λ other. is_other replaced other.id && is_text name.now other.name) routes.now }
 {
-    routes
-        .iter()
-        .find(|other| is_other(replaced, other.id) && is_text(&other.name, name))
+    routes.iter().find(|other| is_other(replaced, other.id) && is_text(&other.name, name))
 }
 
 fn username_holder(rows: &Rows, replaced: Option<Id>, consumer: &Consumer) -> Option<Id>
@@ -197,9 +189,7 @@ fn consumer_with_username<'r>(
 ) -> Option<&'r Consumer>
     ensures { option_copied result ≡ find (λ other. is_other replaced other.id && is_text name.now other.username) consumers.now }
 {
-    consumers
-        .iter()
-        .find(|other| is_other(replaced, other.id) && is_text(&other.username, name))
+    consumers.iter().find(|other| is_other(replaced, other.id) && is_text(&other.username, name))
 }
 
 fn custom_id_holder(rows: &Rows, replaced: Option<Id>, consumer: &Consumer) -> Option<Id>
@@ -224,9 +214,7 @@ fn consumer_with_custom_id<'r>(
 ) -> Option<&'r Consumer>
     ensures { option_copied result ≡ find (λ other. is_other replaced other.id && is_text text.now other.custom_id) consumers.now }
 {
-    consumers
-        .iter()
-        .find(|other| is_other(replaced, other.id) && is_text(&other.custom_id, text))
+    consumers.iter().find(|other| is_other(replaced, other.id) && is_text(&other.custom_id, text))
 }
 
 fn key_holder(rows: &Rows, replaced: Option<Id>, cred: &KeyCred) -> Option<Id>
@@ -235,16 +223,10 @@ fn key_holder(rows: &Rows, replaced: Option<Id>, cred: &KeyCred) -> Option<Id>
     id_of(with_key(rows.key_creds().as_slice(), replaced, cred))
 }
 
-fn with_key<'r>(
-    creds: &'r [KeyCred],
-    replaced: Option<Id>,
-    cred: &KeyCred,
-) -> Option<&'r KeyCred>
+fn with_key<'r>(creds: &'r [KeyCred], replaced: Option<Id>, cred: &KeyCred) -> Option<&'r KeyCred>
     ensures { option_copied result ≡ find (λ other. is_other replaced other.id && bytes_eq other.key cred.now.key) creds.now }
 {
-    creds
-        .iter()
-        .find(|other| is_other(replaced, other.id) && other.key == cred.key)
+    creds.iter().find(|other| is_other(replaced, other.id) && other.key == cred.key)
 }
 
 fn login_holder(rows: &Rows, replaced: Option<Id>, cred: &BasicCred) -> Option<Id>
@@ -260,9 +242,7 @@ fn with_login<'r>(
 ) -> Option<&'r BasicCred>
     ensures { option_copied result ≡ find (λ other. is_other replaced other.id && bytes_eq other.username cred.now.username) creds.now }
 {
-    creds
-        .iter()
-        .find(|other| is_other(replaced, other.id) && other.username == cred.username)
+    creds.iter().find(|other| is_other(replaced, other.id) && other.username == cred.username)
 }
 
 fn group_holder(rows: &Rows, replaced: Option<Id>, membership: &AclRow) -> Option<Id>
@@ -278,8 +258,7 @@ fn with_membership<'r>(
 ) -> Option<&'r AclRow>
     ensures { option_copied result ≡ find (λ other. is_other replaced other.id && same_membership other membership.now) acls.now }
 {
-    acls.iter()
-        .find(|other| is_other(replaced, other.id) && is_same_membership(other, membership))
+    acls.iter().find(|other| is_other(replaced, other.id) && is_same_membership(other, membership))
 }
 
 fn place_holder(rows: &Rows, replaced: Option<Id>, plugin: &PluginRow) -> Option<Id>
@@ -295,7 +274,5 @@ fn in_place<'r>(
 ) -> Option<&'r PluginRow>
     ensures { option_copied result ≡ find (λ other. is_other replaced other.id && same_place other plugin.now) plugins.now }
 {
-    plugins
-        .iter()
-        .find(|other| is_other(replaced, other.id) && is_same_place(other, plugin))
+    plugins.iter().find(|other| is_other(replaced, other.id) && is_same_place(other, plugin))
 }

@@ -182,25 +182,31 @@ pub fn lost_field(
 ) -> Option<&'static str>
     ensures { option_map (λ field. field.now) result ≡ lost_field rows.now above.now meant.now named.now }
 {
-    if is_lost(rows, Kind::Consumer, above.consumer, meant.consumer, named.consumer) {
+    if is_lost(
+        rows,
+        Kind::Consumer,
+        above.consumer,
+        meant.consumer,
+        named.consumer,
+    ) {
         return Some("consumer");
     }
     if is_lost(rows, Kind::Route, above.route, meant.route, named.route) {
         return Some("route");
     }
-    if is_lost(rows, Kind::Service, above.service, meant.service, named.service) {
+    if is_lost(
+        rows,
+        Kind::Service,
+        above.service,
+        meant.service,
+        named.service,
+    ) {
         return Some("service");
     }
     None
 }
 
-fn is_lost(
-    rows: &Rows,
-    kind: Kind,
-    above: Option<Id>,
-    meant: Meaning,
-    named: Option<Id>,
-) -> bool
+fn is_lost(rows: &Rows, kind: Kind, above: Option<Id>, meant: Meaning, named: Option<Id>) -> bool
     ensures { result ≡ is_lost kind rows.now above meant named }
 {
     match named {

@@ -18,10 +18,7 @@ use std::alloc::Global;
 pub enum Place {
     Anywhere,
     /// Under the row of this kind and id.
-    Under {
-        kind: Kind,
-        id: Id,
-    },
+    Under { kind: Kind, id: Id },
 }
 
 /// Where a row is asked for; none where its parent is missing.

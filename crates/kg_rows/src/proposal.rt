@@ -65,6 +65,7 @@ fn proposed(
     ensures refused { IfErr result (λ e. Refuses e (proposed rows.now form.now.kind (view form.now.body) (base_of base.now) above.now replaced)) }
 {
     let meant = meant_in(alloc, rows, form)?;
+    let _service = meant.service;
     let links = links_in(above, &meant);
     let strange = strange_field(above, &meant);
     let row = finished(alloc, form, base, &links, strange)?;

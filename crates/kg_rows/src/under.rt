@@ -160,10 +160,16 @@ fn row_with_id(
         Kind::Route => route_row(alloc, with_id(rows.routes().as_slice(), upper, above, id)),
         Kind::Consumer => consumer_row(alloc, rows.consumers().get(id)),
         Kind::KeyCred => {
-            key_cred_row(alloc, with_id(rows.key_creds().as_slice(), upper, above, id))
+            key_cred_row(
+                alloc,
+                with_id(rows.key_creds().as_slice(), upper, above, id),
+            )
         }
         Kind::BasicCred => {
-            basic_cred_row(alloc, with_id(rows.basic_creds().as_slice(), upper, above, id))
+            basic_cred_row(
+                alloc,
+                with_id(rows.basic_creds().as_slice(), upper, above, id),
+            )
         }
         Kind::Acl => acl_row(alloc, with_id(rows.acls().as_slice(), upper, above, id)),
         Kind::Plugin => plugin_row(alloc, with_id(rows.plugins().as_slice(), upper, above, id)),
@@ -182,11 +188,17 @@ fn row_with_word(
 {
     match kind {
         Kind::Service => service_row(alloc, rows.service_named(text)),
-        Kind::Route => route_row(alloc, with_word(rows.routes().as_slice(), upper, above, text)),
+        Kind::Route => route_row(
+            alloc,
+            with_word(rows.routes().as_slice(), upper, above, text),
+        ),
         Kind::Consumer => consumer_row(alloc, rows.consumer_with_username(text)),
         Kind::KeyCred => key_cred_row(alloc, key_cred_of_word(rows, upper, above, text)),
         Kind::BasicCred => {
-            basic_cred_row(alloc, with_word(rows.basic_creds().as_slice(), upper, above, text))
+            basic_cred_row(
+                alloc,
+                with_word(rows.basic_creds().as_slice(), upper, above, text),
+            )
         }
         Kind::Acl => acl_row(alloc, with_word(rows.acls().as_slice(), upper, above, text)),
         Kind::Plugin => Ok(None),
@@ -194,12 +206,7 @@ fn row_with_word(
 }
 
 // The key credential with this id, where the text tells one and such a row is there, else with this key.
-fn key_cred_of_word<'r>(
-    rows: &'r Rows,
-    upper: Kind,
-    above: Id,
-    text: &Text,
-) -> Option<&'r KeyCred>
+fn key_cred_of_word<'r>(rows: &'r Rows, upper: Kind, above: Id, text: &Text) -> Option<&'r KeyCred>
     ensures { option_map of_row.KeyCred (option_copied result) ≡ key_cred_of_word text.now (rows_under upper above rows.now) }
 {
     if let Some(id) = Id::parse(text.as_bytes()) {
