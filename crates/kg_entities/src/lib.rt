@@ -33,7 +33,7 @@ pub use crate::route::{HeaderTest, Route};
 pub use crate::row::{Owned, Row};
 pub use crate::rows::Rows;
 pub use crate::service::Service;
-pub use crate::table::Table;
+pub use crate::table::RowTable;
 pub use crate::value::Value;
 
 #[cfg(test)]

@@ -8,7 +8,7 @@ ghost use Rattle.kg_entities.specs.Tables.{replaced};
 use crate::consumer::AclRow;
 use crate::id::Id;
 use crate::owner_index::OwnerIndex;
-use crate::table::Table;
+use crate::table::RowTable;
 use kg_text::{NoMemory, TryClone};
 use std::alloc::Global;
 use std::marker::Model;
@@ -16,7 +16,7 @@ use std::marker::Model;
 /// The memberships. Contracts see them as a list in the order of insertion.
 #[derive(Debug, Drop)]
 pub struct Memberships {
-    table: Table<AclRow>,
+    table: RowTable<AclRow>,
     owners: OwnerIndex,
 }
 
@@ -38,12 +38,12 @@ impl Memberships {
         ensures { result ≡ [] }
     {
         Memberships {
-            table: Table::new(alloc),
+            table: RowTable::new(alloc),
             owners: OwnerIndex::new(alloc),
         }
     }
 
-    pub(crate) fn table(&self) -> &Table<AclRow>
+    pub(crate) fn table(&self) -> &RowTable<AclRow>
         ensures { result.now ≡ self.now }
     {
         &self.table

@@ -8,7 +8,7 @@ ghost use Rattle.kg_entities.specs.Tables.{replaced};
 
 use crate::id::Id;
 use crate::row::{Named, Owned};
-use crate::table::Table;
+use crate::table::RowTable;
 use crate::text_index::{Holder, TextIndex};
 use kg_text::{NoMemory, Text, TryClone};
 use std::alloc::Global;
@@ -18,7 +18,7 @@ use std::marker::Model;
 /// name or its alias without a search, unless several rows have had that text at the same time.
 #[derive(Debug, Drop)]
 pub struct NamedTable<T: Named> {
-    table: Table<T>,
+    table: RowTable<T>,
     names: TextIndex,
     aliases: TextIndex,
 }
@@ -43,13 +43,13 @@ impl<T: Named> NamedTable<T> {
         ensures { result ≡ [] }
     {
         NamedTable {
-            table: Table::new(alloc),
+            table: RowTable::new(alloc),
             names: TextIndex::new(alloc),
             aliases: TextIndex::new(alloc),
         }
     }
 
-    pub(crate) fn table(&self) -> &Table<T>
+    pub(crate) fn table(&self) -> &RowTable<T>
         ensures { result.now ≡ self.now }
     {
         &self.table

@@ -18,7 +18,7 @@ use crate::named_table::NamedTable;
 use crate::plugin::PluginRow;
 use crate::route::Route;
 use crate::service::Service;
-use crate::table::Table;
+use crate::table::RowTable;
 use kg_text::{NoMemory, Text, TryClone};
 use std::alloc::Global;
 use std::marker::Model;
@@ -32,7 +32,7 @@ pub struct Rows {
     key_creds: NamedTable<KeyCred>,
     basic_creds: NamedTable<BasicCred>,
     acls: Memberships,
-    plugins: Table<PluginRow>,
+    plugins: RowTable<PluginRow>,
 }
 
 impl Model for Rows {
@@ -55,47 +55,47 @@ impl Rows {
             key_creds: NamedTable::new(alloc),
             basic_creds: NamedTable::new(alloc),
             acls: Memberships::new(alloc),
-            plugins: Table::new(alloc),
+            plugins: RowTable::new(alloc),
         }
     }
 
-    pub fn services(&self) -> &Table<Service>
+    pub fn services(&self) -> &RowTable<Service>
         ensures { result.now ≡ self.now.services }
     {
         self.services.table()
     }
 
-    pub fn routes(&self) -> &Table<Route>
+    pub fn routes(&self) -> &RowTable<Route>
         ensures { result.now ≡ self.now.routes }
     {
         self.routes.table()
     }
 
-    pub fn consumers(&self) -> &Table<Consumer>
+    pub fn consumers(&self) -> &RowTable<Consumer>
         ensures { result.now ≡ self.now.consumers }
     {
         self.consumers.table()
     }
 
-    pub fn key_creds(&self) -> &Table<KeyCred>
+    pub fn key_creds(&self) -> &RowTable<KeyCred>
         ensures { result.now ≡ self.now.key_creds }
     {
         self.key_creds.table()
     }
 
-    pub fn basic_creds(&self) -> &Table<BasicCred>
+    pub fn basic_creds(&self) -> &RowTable<BasicCred>
         ensures { result.now ≡ self.now.basic_creds }
     {
         self.basic_creds.table()
     }
 
-    pub fn acls(&self) -> &Table<AclRow>
+    pub fn acls(&self) -> &RowTable<AclRow>
         ensures { result.now ≡ self.now.acls }
     {
         self.acls.table()
     }
 
-    pub fn plugins(&self) -> &Table<PluginRow>
+    pub fn plugins(&self) -> &RowTable<PluginRow>
         ensures { result.now ≡ self.now.plugins }
     {
         &self.plugins

@@ -17,11 +17,11 @@ use std::marker::Model;
 
 /// The rows of one kind. Contracts see them as a list in the order of insertion.
 #[derive(Debug, Drop)]
-pub struct Table<T: Row> {
+pub struct RowTable<T: Row> {
     rows: IndexMap<Id, T>,
 }
 
-impl<T: Row> Model for Table<T> {
+impl<T: Row> Model for RowTable<T> {
     ghost use Rattle.std.specs.Prelude.{List, All, nat_eq, ◌≡◌};
     ghost use Rattle.indexmap.specs.IndexMap.{IsUnique};
     ghost use Rattle.std.specs.Coded.{coded_list};
@@ -36,12 +36,12 @@ impl<T: Row> Model for Table<T> {
     ghost invariant = { λ table. All (λ entry. entry.0 ≡ T.number entry.1) table.rows.entries × IsUnique nat_eq table.rows };
 }
 
-impl<T: Row> Table<T> {
+impl<T: Row> RowTable<T> {
     /// No rows. It takes no memory.
-    pub(crate) fn new(alloc: Global) -> Table<T>
+    pub(crate) fn new(alloc: Global) -> RowTable<T>
         ensures { result ≡ [] }
     {
-        Table {
+        RowTable {
             rows: IndexMap::new(alloc),
         }
     }
@@ -109,7 +109,7 @@ impl<T: Row> Table<T> {
     }
 }
 
-impl Table<PluginRow> {
+impl RowTable<PluginRow> {
     /// Takes out the plugins whose scope names the row of this kind and id.
     pub(crate) fn remove_of(&mut self, kind: Kind, id: Id)
         ensures { self.new ≡ filter (λ plugin. not (names_row kind id plugin)) self.old }
@@ -118,7 +118,7 @@ impl Table<PluginRow> {
     }
 }
 
-impl<T: Owned> Table<T> {
+impl<T: Owned> RowTable<T> {
     /// Takes out the rows of this consumer.
     pub(crate) fn remove_owned(&mut self, consumer: Id)
         ensures { self.new ≡ filter (λ row. not (T.owner row == consumer)) self.old }

@@ -8,7 +8,7 @@ ghost use Rattle.kg_entities.specs.TextIndexes.{holder_of, noted, forgotten, is_
 
 use crate::id::Id;
 use crate::row::Row;
-use crate::table::Table;
+use crate::table::RowTable;
 use indexmap::IndexMap;
 use kg_text::{NoMemory, Text};
 use std::alloc::Global;
@@ -91,7 +91,7 @@ impl TextIndex {
     }
 
     /// Drops the texts whose one holder isn't there.
-    pub(crate) fn keep_held<T: Row>(&mut self, rows: &Table<T>)
+    pub(crate) fn keep_held<T: Row>(&mut self, rows: &RowTable<T>)
         ensures { (text : List ℕ) → holder_of self.new text ≡ kept (is_kept T.number rows.now) (holder_of self.old text) }
     {
         if self.holders.len() != 0 {
@@ -118,7 +118,7 @@ fn is_row(holder: Holder, id: Id) -> bool
     }
 }
 
-fn is_kept<T: Row>(holder: Holder, rows: &Table<T>) -> bool
+fn is_kept<T: Row>(holder: Holder, rows: &RowTable<T>) -> bool
     ensures { result ≡ is_kept T.number rows.now holder }
 {
     match holder {

@@ -2,7 +2,7 @@ use Rattle.std.proofs.Common.{nat_eq, find, filter, option_to_list, ap, subst, â
 use Rattle.std.specs.List.{IsDistinct}
 use Rattle.std.specs.Map.{values_of}
 use Rattle.kg_entities.proofs.TableLemmas.{found_tied, keys_tied, only_one}
-use Rattle.kg_entities.proofs.table.Table.get.Goals as goal
+use Rattle.kg_entities.proofs.table.RowTable.get.Goals as goal
 
 -- what the index finds is the first row with the id
 pub returns-clause-first : goal.returns-clause-first

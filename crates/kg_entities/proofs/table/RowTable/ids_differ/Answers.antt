@@ -1,7 +1,7 @@
 use Rattle.std.proofs.Common.{nat_eq, map, ap, subst, ◌∙◌}
 use Rattle.std.specs.List.{IsDistinct}
 use Rattle.kg_entities.proofs.TableLemmas.{keys_tied}
-use Rattle.kg_entities.proofs.table.Table.ids_differ.Goals as goal
+use Rattle.kg_entities.proofs.table.RowTable.ids_differ.Goals as goal
 
 -- the keys of the entries are the ids of the rows
 pub returns : goal.returns

@@ -2,7 +2,7 @@ use Rattle.std.proofs.Common.{nat_eq, is_some, ap, ◌∙◌}
 use Rattle.std.specs.List.{list_any}
 use Rattle.std.specs.Map.{values_of}
 use Rattle.kg_entities.proofs.TableLemmas.{found_tied, is_some-find}
-use Rattle.kg_entities.proofs.table.Table.contains.Goals as goal
+use Rattle.kg_entities.proofs.table.RowTable.contains.Goals as goal
 
 -- the index finds something exactly where a row has the id
 pub returns : goal.returns

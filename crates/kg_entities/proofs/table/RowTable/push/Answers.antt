@@ -4,7 +4,7 @@ use Rattle.std.specs.Map.{values_of}
 use Rattle.indexmap.specs.IndexMap.{insert_entry}
 use Rattle.indexmap.proofs.CallerLemmas.{insert_entry-new}
 use Rattle.kg_entities.proofs.TableLemmas.{Tied, nothing_tied, tied_insert, values-push}
-use Rattle.kg_entities.proofs.table.Table.push.Goals as goal
+use Rattle.kg_entities.proofs.table.RowTable.push.Goals as goal
 
 -- the new row is tied to its id
 pub invariant_of-self-2 : goal.invariant_of-self-2

@@ -4,8 +4,8 @@ use Rattle.std.specs.Map.{lookup, values_of}
 use Rattle.indexmap.specs.IndexMap.{insert_entry}
 use Rattle.kg_entities.specs.Tables.{replaced}
 use Rattle.kg_entities.proofs.TableLemmas.{Tied, found_tied, is_some-find, replaced_tied, not_replaced, tied_insert}
-use Rattle.kg_entities.proofs.table.Table.replace.Goals.{in-Ok+in-Some-1, in-Ok+in-None-1, in-Err-2}
-use Rattle.kg_entities.proofs.table.Table.replace.Goals as goal
+use Rattle.kg_entities.proofs.table.RowTable.replace.Goals.{in-Ok+in-Some-1, in-Ok+in-None-1, in-Err-2}
+use Rattle.kg_entities.proofs.table.RowTable.replace.Goals as goal
 
 -- the row is tied to its id
 pub invariant_of-self : goal.invariant_of-self

@@ -4,7 +4,7 @@ use Rattle.std.specs.Map.{values_of}
 use Rattle.indexmap.proofs.CallerLemmas.{filter-RetainsPairs}
 use Rattle.kg_entities.proofs.TableLemmas.{Tied, values-filter}
 use Rattle.kg_entities.specs.RowChanges.{names_row}
-use Rattle.kg_entities.proofs.table.Table+PluginRow.remove_of.Goals as goal
+use Rattle.kg_entities.proofs.table.RowTable+PluginRow.remove_of.Goals as goal
 
 -- the rows that are left are tied
 pub invariant_of-self : goal.invariant_of-self

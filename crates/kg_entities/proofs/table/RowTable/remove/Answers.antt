@@ -3,7 +3,7 @@ use Rattle.std.proofs.lemmas.List.Elements.{All-filter}
 use Rattle.std.specs.Map.{values_of}
 use Rattle.indexmap.proofs.CallerLemmas.{filter-RetainsPairs}
 use Rattle.kg_entities.proofs.TableLemmas.{Tied, values-filter}
-use Rattle.kg_entities.proofs.table.Table.remove.Goals as goal
+use Rattle.kg_entities.proofs.table.RowTable.remove.Goals as goal
 
 -- the rows that are left are tied
 pub invariant_of-self : goal.invariant_of-self
