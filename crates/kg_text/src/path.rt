@@ -5,6 +5,7 @@ ghost use Rattle.std.specs.List.{list_all, prefix_len};
 ghost use Rattle.kg_text.specs.Paths.{slash, is_path_byte, is_path, path_len, normal_escapes, without_dots, normal_form};
 ghost use Rattle.kg_text.specs.Reading.{Gives};
 
+use crate::bytes::Bytes;
 use crate::error::TextError;
 use crate::escape::{has_normal_escapes, with_normal_escapes};
 use crate::segment::{is_dot_free, without_dots};
@@ -28,6 +29,16 @@ pub fn normalise(alloc: Global, path: &[u8]) -> Result<Text, TextError>
         return Err(TextError::Bad { at: path_len(path) });
     }
     Ok(text_of(rewritten(alloc, path)?))
+}
+
+/// The normal form of a path, as `normalise` gives it. A path that is its own normal form isn't copied.
+pub fn into_normal_form(alloc: Global, path: Bytes) -> Result<Text, TextError>
+    ensures { Gives result (normal_form path) }
+{
+    if is_normal(path.as_slice()) {
+        return Ok(text_of(path.into_vec()));
+    }
+    normalise(alloc, path.as_slice())
 }
 
 /// Is this a path, and its own normal form? It takes no memory.
