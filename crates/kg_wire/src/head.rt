@@ -11,7 +11,7 @@ use crate::checks::is_framed;
 use crate::target::{path_len, target_query};
 use httparse::spans::{HeaderSpan, RequestSpans};
 use kg_message::{Headers, Request};
-use kg_text::{Bytes, Name, NoMemory, Text, TextError, into_normal_form};
+use kg_text::{Bytes, Name, NoMemory, Text, into_normal_form};
 use std::alloc::Global;
 
 /// The head of a request, copied out of the bytes that were read. Nothing of it was checked yet but
@@ -101,11 +101,7 @@ fn path_of(alloc: Global, target: Bytes) -> Result<Text, NoMemory>
     requires { IsTrue (is_target target) }
     ensures { IfOk result (λ text. normal_form (target_path target) ≡ Ok text) }
 {
-    match into_normal_form(alloc, cut_path(target)) {
-        Ok(text) => Ok(text),
-        Err(TextError::Bad { at: _ }) => unreachable!(),
-        Err(TextError::NoMemory) => Err(NoMemory),
-    }
+    into_normal_form(alloc, cut_path(target))
 }
 
 // What stands before the first `?`.

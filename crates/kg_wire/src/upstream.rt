@@ -6,7 +6,7 @@ ghost use Rattle.std.specs.Net.Text.{ipv4_text};
 ghost use Rattle.kg_wire.specs.FieldLines.{field_line, field_lines};
 ghost use Rattle.kg_wire.specs.UpstreamText.{client_fields, forwarded_fields, forwarded_for, forwarded_value, upstream_text};
 
-use crate::lines::{put_body, put_connection, put_field, put_fields, put_stated_length, room_for};
+use crate::lines::{put_body, put_close, put_field, put_fields, put_stated_length, room_for};
 use itoa::Buffer;
 use kg_message::{Header, Headers, Request};
 use kg_text::{Bytes, NoMemory};
@@ -30,7 +30,7 @@ pub fn render_request(
     put_fields(&mut out, headers)?;
     put_client_fields(&mut out, request)?;
     put_stated_length(&mut out, request.framed, &request.body)?;
-    put_connection(&mut out, b"close")?;
+    put_close(&mut out)?;
     put_body(&mut out, true, &request.body)?;
     Ok(out)
 }
@@ -66,7 +66,7 @@ fn put_forwarded(
         OnOk result (out.new ≡ out.old ++ field_lines (forwarded_fields (forwarded_for headers.now text) host.now text)) }
 {
     put_forwarded_for(out, headers, address)?;
-    put_field(out, b"x-forwarded-proto", b"http")?;
+    put_scheme(out)?;
     put_field(out, b"x-forwarded-host", host)?;
     put_real_ip(out, address)?;
     Ok(())
@@ -102,6 +102,13 @@ fn put_forwarded_value(out: &mut Bytes, field: &Header) -> Result<(), NoMemory>
         out.extend_from_slice(b", ")?;
     }
     Ok(())
+}
+
+#[tactic(auto, unfolding(crate::specs::FieldLines::field_line))]
+fn put_scheme(out: &mut Bytes) -> Result<(), NoMemory>
+    ensures { OnOk result (out.new ≡ out.old ++ field_line (record { name = codes "x-forwarded-proto"; value = codes "http" })) }
+{
+    out.extend_from_slice(b"x-forwarded-proto: http\r\n")
 }
 
 fn put_real_ip(out: &mut Bytes, address: [u8; 4]) -> Result<(), NoMemory>
