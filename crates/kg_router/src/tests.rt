@@ -79,7 +79,10 @@ fn regex_path_comes_before_a_longer_prefix(rt: HostRuntime) -> Result<(), Fail> 
         paths: &["/a/long"],
         ..BLANK
     };
-    assert_eq!(rt; found(&rt, plain, regex, "", "/a/long/x")?, Some((id(2), 2)));
+    assert_eq!(rt;
+        found(&rt, plain, regex, "", "/a/long/x")?,
+        Some((id(2), 2))
+    );
     assert_eq!(rt; found(&rt, plain, regex, "", "/b/a")?, None);
     Ok(())
 }
@@ -99,7 +102,11 @@ fn services_that_take_no_part_hide_their_routes(rt: HostRuntime) -> Result<(), F
             paths: &["/a/b"],
             ..BLANK
         };
-        assert_eq!(rt; found(&rt, hidden, open, "", "/a/b")?, Some((id(9), 2)), "{service}");
+        assert_eq!(rt;
+            found(&rt, hidden, open, "", "/a/b")?,
+            Some((id(9), 2)),
+            "{service}"
+        );
     }
     Ok(())
 }
