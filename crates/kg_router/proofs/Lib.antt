@@ -1,4 +1,7 @@
 mod BestRoute
+mod PlaceLemmas
 mod RouteOrder
 mod Search
 pub mod TableLemmas
+mod TestRoutes
+mod ValidPaths
