@@ -132,15 +132,61 @@ fn a_service_is_made(rt: HostRuntime) -> Result<(), Fail> {
     Ok(())
 }
 
+// What is told of a refusal.
+fn told(decided: Result<Command, DecideError>) -> &'static str {
+    match decided {
+        Ok(_) => "allowed",
+        Err(DecideError::NoMemory) => "no memory",
+        Err(DecideError::Refused(Refusal::NotFound)) => "not found",
+        Err(DecideError::Refused(Refusal::Violation(_))) => "violation",
+        Err(DecideError::Refused(Refusal::Foreign { .. })) => "foreign",
+        Err(DecideError::Refused(Refusal::Unique { .. })) => "unique",
+        Err(DecideError::Refused(Refusal::Full)) => "full",
+        Err(DecideError::Refused(Refusal::HistoryFull)) => "history full",
+    }
+}
+
+// A route under the service of this name.
+fn post_route(alloc: Global, service: &str, body: &str) -> Result<Draft, Fail> {
+    Ok(Draft::Insert {
+        kind: Kind::Route,
+        parent: Some(Parent {
+            kind: Kind::Service,
+            select: Select::Word(text(alloc, service)?),
+        }),
+        form: form(alloc, Kind::Route, body)?,
+        id: id(9),
+        now: 0,
+    })
+}
+
 #[test]
-fn a_taken_name_is_refused_before_a_full_kind(rt: HostRuntime) -> Result<(), Fail> {
+fn refusals_come_in_their_order(rt: HostRuntime) -> Result<(), Fail> {
     let alloc = rt.alloc();
-    let rows = with_service(alloc)?;
-    let again = post(alloc, Kind::Service, r#"{"name":"a","host":"h"}"#, 2)?;
-    let decided = decide(alloc, &rows, &again, 1);
-    assert!(rt; decided == refused(taken(alloc, "name", id(1))?));
-    let other = post(alloc, Kind::Service, r#"{"name":"b","host":"h"}"#, 2)?;
-    assert!(rt; decide(alloc, &rows, &other, 1) == refused(Refusal::Full));
+    let mut rows = with_service(alloc)?;
+    add(
+        alloc,
+        &mut rows,
+        Kind::Route,
+        r#"{"service":"a","name":"r","paths":["/x"]}"#,
+        2,
+    )?;
+    for (service, body, wanted) in [
+        ("b", r#"{"name":"r"}"#, "not found"),
+        ("a", r#"{"name":"r"}"#, "violation"),
+        ("a", r#"{"name":"r","paths":["/y"]}"#, "unique"),
+        ("a", r#"{"name":"s","paths":["/y"]}"#, "full"),
+    ] {
+        let draft = post_route(alloc, service, body)?;
+        assert_eq!(rt; told(decide(alloc, &rows, &draft, 1)), wanted, "{body}");
+    }
+    let lost = post(
+        alloc,
+        Kind::Route,
+        r#"{"service":"b","name":"r","paths":["/y"]}"#,
+        9,
+    )?;
+    assert_eq!(rt; told(decide(alloc, &rows, &lost, 1)), "foreign");
     Ok(())
 }
 
@@ -163,24 +209,6 @@ fn a_service_that_a_route_names_stays(rt: HostRuntime) -> Result<(), Fail> {
 }
 
 #[test]
-fn a_consumer_is_deleted_by_its_username(rt: HostRuntime) -> Result<(), Fail> {
-    let alloc = rt.alloc();
-    let rows = with_consumers(alloc)?;
-    let command = decide(
-        alloc,
-        &rows,
-        &delete(alloc, Kind::Consumer, "alice")?,
-        LIMIT,
-    )?;
-    let wanted = Command::Delete {
-        kind: Kind::Consumer,
-        id: id(3),
-    };
-    assert!(rt; command == wanted);
-    Ok(())
-}
-
-#[test]
 fn the_first_missing_reference_is_told(rt: HostRuntime) -> Result<(), Fail> {
     let alloc = rt.alloc();
     let rows = with_service(alloc)?;
@@ -196,15 +224,6 @@ fn the_first_missing_reference_is_told(rt: HostRuntime) -> Result<(), Fail> {
         let decided = decide(alloc, &rows, &draft, LIMIT);
         assert!(rt; decided == refused(foreign(alloc, field, false)?), "{body}");
     }
-    Ok(())
-}
-
-#[test]
-fn a_violation_comes_before_a_missing_reference(rt: HostRuntime) -> Result<(), Fail> {
-    let alloc = rt.alloc();
-    let draft = post(alloc, Kind::Route, r#"{"service":"b"}"#, 2)?;
-    let decided = decide(alloc, &Rows::new(alloc), &draft, LIMIT);
-    assert_eq!(rt; first_path(alloc, decided)?.as_str(), "paths");
     Ok(())
 }
 
