@@ -14,7 +14,7 @@ use Rattle.kg_rows.specs.Decision.{and_then, decision, full, inserted, insertion
 use Rattle.kg_rows.specs.References.{link_of}
 use Rattle.kg_rows.specs.Rows.{changed, rows_after, rows_from}
 use Rattle.kg_rows.specs.Selections.{place_of}
-use Rattle.kg_rows.specs.ValidCommands.{IsValidCommand}
+use Rattle.kg_rows.specs.ValidCommands.{AreAllowed, IsValidCommand}
 use Rattle.kg_rows.specs.declared.command.Command.{Command}
 use Rattle.kg_rows.specs.declared.command.Command.TheVariants as command
 use Rattle.kg_rows.specs.declared.draft.Draft.{Draft}
@@ -23,7 +23,7 @@ use Rattle.kg_rows.specs.declared.draft.Refusal.{Refusal}
 use Rattle.kg_rows.specs.declared.draft.Refusal.TheVariants.{NotFound}
 use Rattle.kg_rows.specs.declared.place.Place.{Place}
 use Rattle.kg_schema.specs.Bases.{New}
-use Rattle.kg_declare.specs.Histories.{AreAllowedFrom, AreInsertions, InsertsValidRow, IsConsistent, IsInsertion}
+use Rattle.kg_declare.specs.Histories.{AreInsertions, InsertsValidRow, IsConsistent, IsInsertion}
 
 -- ---- what is decided of an insertion
 
@@ -65,7 +65,7 @@ insertion_inserts rows (Patch of_kind parent select form now) limit done is same
 insertion_inserts rows (Put of_kind parent select form id now) limit done is same = absurd is
 insertion_inserts rows (Delete of_kind parent select) limit done is same = absurd is
 
-pub valid_insertion : (done : Command) → Inserts done → IsValidCommand done → InsertsValidRow done
+valid_insertion : (done : Command) → Inserts done → IsValidCommand done → InsertsValidRow done
 valid_insertion (command.Insert new) is valid = valid
 valid_insertion (command.Update new) is valid = absurd is
 valid_insertion (command.Delete kind id) is valid = absurd is
@@ -76,21 +76,22 @@ rows_from-push : (rows : RowLists) (commands : List Command) (done : Command) �
 rows_from-push rows [] done = refl
 rows_from-push rows (first ∷ commands) done = rows_from-push (changed first rows) commands done
 
-allowed-push : (limit : ℕ) (rows : RowLists) (commands : List Command) (done : Command) → AreAllowedFrom limit rows commands
-    → IsTrue (is_allowed (rows_from rows commands) done limit) → AreAllowedFrom limit rows (commands ++ done ∷ [])
-allowed-push limit rows [] done allowed may = (may, tt)
-allowed-push limit rows (first ∷ commands) done allowed may = (allowed.0, allowed-push limit (changed first rows) commands done allowed.1 may)
+allowed-push : (limit : ℕ) (rows : RowLists) (commands : List Command) (done : Command) → AreAllowed rows commands limit
+    → IsValidCommand done → IsTrue (is_allowed (rows_from rows commands) done limit) → AreAllowed rows (commands ++ done ∷ []) limit
+allowed-push limit rows [] done allowed valid may = (valid, may, tt)
+allowed-push limit rows (first ∷ commands) done allowed valid may =
+    (allowed.0, allowed.1, allowed-push limit (changed first rows) commands done allowed.2 valid may)
 
 module _ (limit : ℕ) (rows : RowLists) (commands : List Command) (done : Command) (after : rows ≡ rows_after commands) where
   pub rows_then : changed done rows ≡ rows_after (commands ++ done ∷ [])
   rows_then = ap (changed done) after ∙ sym (rows_from-push no_rows commands done)
 
-  pub insertions_then : AreInsertions limit commands → InsertsValidRow done → IsTrue (is_allowed rows done limit)
+  pub insertions_then : AreInsertions limit commands → Inserts done → IsValidCommand done → IsTrue (is_allowed rows done limit)
       → AreValidRows (changed done rows) → HasDistinctRows (changed done rows) → HasReferences (changed done rows)
       → AreInsertions limit (commands ++ done ∷ [])
-  insertions_then so_far inserts may valid distinct references = record {
-    inserts = All-push InsertsValidRow commands done so_far.inserts inserts;
-    allowed = allowed-push limit no_rows commands done so_far.allowed (subst (λ rows. IsTrue (is_allowed rows done limit)) after may);
+  insertions_then so_far inserts puts_valid may valid distinct references = record {
+    inserts = All-push InsertsValidRow commands done so_far.inserts (valid_insertion done inserts puts_valid);
+    allowed = allowed-push limit no_rows commands done so_far.allowed puts_valid (subst (λ rows. IsTrue (is_allowed rows done limit)) after may);
     valid = subst AreValidRows rows_then valid;
     distinct = subst HasDistinctRows rows_then distinct;
     references = subst HasReferences rows_then references;
