@@ -9,9 +9,10 @@ use Rattle.kg_schema.specs.Rules.{Fault, in_order}
 use Rattle.kg_schema.specs.Settings.{id_at}
 use Rattle.kg_schema.specs.declared.rule.Rule.TheVariants.{WrongType}
 use Rattle.kg_declare.specs.Faults.{own_faults}
+use Rattle.kg_declare.specs.Histories.{IsConsistent}
 use Rattle.kg_declare.specs.Outcome.{Progress, Refused, declaration_of, declared, outcome, start, unread, next, identified, inserted, row_faults, violated, with_row, with_rows, wrong_faults}
 use Rattle.kg_declare.specs.Rows.{Row}
-use Rattle.kg_declare.specs.Steps.{IsIdOf, IsRefusedAt, IsUnread, Leaves, Prepares, TellsFaults, progress_at}
+use Rattle.kg_declare.specs.Steps.{IsIdOf, IsRefusedAt, IsUnread, Leaves, Prepares, TellsFaults, progress_after, progress_at}
 use Rattle.kg_declare.specs.declared.error.DeclareError.{DeclareError}
 use Rattle.kg_declare.specs.declared.error.DeclareError.TheVariants as error
 use Rattle.kg_declare.specs.declared.progress.Made.{Made}
@@ -129,10 +130,11 @@ pub faultless_inserted : (line : List ℕ) (rows : List Row) (now limit : ℕ) (
 unfolding outcome declared
 faultless_inserted line rows now limit draws ready = rw (ready.read, ready.faultless, ready.rows) refl
 
--- with no rows, and with no ids behind those that were drawn
+-- beginning with no rows
 pub from_start : (draws : List (List ℕ)) (now limit : ℕ) (rows : List Row) (old : Made) (answer : Result Progress Refused) → progress_at old 0 ≡ start
-    → with_rows (draws ++ []) now limit rows (progress_at old 0) ≡ answer → with_rows draws now limit rows start ≡ answer
-from_start draws now limit rows old answer begun is =
-    ap (with_rows draws now limit rows) (sym begun)
-    ∙ ap (λ all. with_rows all now limit rows (progress_at old 0)) (sym (append-nil draws))
-    ∙ is
+    → with_rows draws now limit rows (progress_at old 0) ≡ answer → with_rows draws now limit rows start ≡ answer
+from_start draws now limit rows old answer begun is = ap (with_rows draws now limit rows) (sym begun) ∙ is
+
+-- the rows are those after the commands
+pub at_commands : (limit : ℕ) (made : Made) (drawn : ℕ) → IsConsistent limit made → progress_at made drawn ≡ progress_after made.commands drawn
+at_commands limit made drawn is = ap (λ rows. record { rows = rows; commands = made.commands; drawn = drawn }) is.rows

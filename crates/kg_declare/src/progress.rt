@@ -1,12 +1,14 @@
 //! The rows of a declaration, inserted one after another.
 
-ghost use Rattle.std.specs.Prelude.{◌≡◌, [], ℕ, ◌<◌, IfErr, IfOk, OnOk, fold, length, map};
+ghost use Rattle.std.specs.Prelude.{◌≡◌, [], ℕ, ◌<◌, All, IfErr, IfOk, OnOk, fold, length, map};
 ghost use Rattle.serde_json.specs.Data.{object};
 ghost use Rattle.serde_json.specs.View.{members_view, view};
-ghost use Rattle.kg_rows.specs.Decision.{decision};
+ghost use Rattle.kg_rows.specs.Decision.{IsProper, decision};
 ghost use Rattle.kg_schema.specs.Rules.{tell};
 ghost use Rattle.kg_schema.specs.Settings.{id_at};
+ghost use Rattle.kg_declare.specs.Histories.{IsConsistent, IsInsertion};
 ghost use Rattle.kg_declare.specs.Outcome.{body_faults, decided, id_in_place, parent_in_place, parent_of, row_faults, start, with_row, with_rows, wrong_faults};
+ghost use Rattle.kg_declare.specs.Rows.{Stands};
 ghost use Rattle.kg_declare.specs.SeenRows.{seen, seen_all};
 ghost use Rattle.kg_declare.specs.Steps.{Identifies, Leaves, Steps, StepsFromStart, TellsFaults, progress_at};
 
@@ -31,7 +33,8 @@ pub struct Made {
 impl Made {
     /// No rows. It takes no memory.
     pub fn new(alloc: Global) -> Made
-        ensures { progress_at result 0 ≡ start }
+        ensures start { progress_at result 0 ≡ start }
+        ensures consistent { (limit : ℕ) → IsConsistent limit result }
     {
         Made {
             rows: Rows::new(alloc),
@@ -49,7 +52,9 @@ pub fn insert_rows<I: Ids>(
     now: u64,
     limit: u32,
 ) -> Result<(), DeclareError>
-    ensures { StepsFromStart I.draws ids.old ids.new result made.old made.new (λ draws. with_rows draws now limit (seen_all rows.items)) }
+    requires { All Stands (seen_all rows.items) }
+    ensures steps { StepsFromStart I.draws ids.old ids.new result made.old made.new (λ draws. with_rows draws now limit (seen_all rows.items)) }
+    ensures consistent { IsConsistent limit made.old → OnOk result (IsConsistent limit made.new) }
 {
     for row in rows {
         match insert_row(alloc, row, made, ids, now, limit) {
@@ -68,7 +73,9 @@ fn insert_row<I: Ids>(
     now: u64,
     limit: u32,
 ) -> Result<(), DeclareError>
-    ensures { Steps I.draws ids.old ids.new result made.old made.new (λ draws. with_row draws now limit (seen row)) }
+    requires { Stands (seen row) }
+    ensures steps { Steps I.draws ids.old ids.new result made.old made.new (λ draws. with_row draws now limit (seen row)) }
+    ensures consistent { IsConsistent limit made.old → OnOk result (IsConsistent limit made.new) }
 {
     let kind = row.kind;
     let parent = parent_of(&made.rows, row.parent);
@@ -90,7 +97,10 @@ fn insert_row<I: Ids>(
 
 // What the draft's command makes of the rows.
 fn insert(alloc: Global, draft: &Draft, made: &mut Made, limit: u32) -> Result<(), DeclareError>
-    ensures { (before drawn : ℕ) → Leaves result (decided (progress_at made.old before) drawn (decision made.old.rows draft.now limit)) made.new drawn }
+    requires insertion { IsInsertion draft.now }
+    requires proper { IsProper draft.now }
+    ensures leaves { (before drawn : ℕ) → Leaves result (decided (progress_at made.old before) drawn (decision made.old.rows draft.now limit)) made.new drawn }
+    ensures consistent { IsConsistent limit made.old → OnOk result (IsConsistent limit made.new) }
 {
     match decide(alloc, &made.rows, draft, limit) {
         Ok(command) => {
