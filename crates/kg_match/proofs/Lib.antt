@@ -1,4 +1,4 @@
-mod CompileLemmas
+pub mod CompileLemmas
 mod HostLemmas
 mod PathLemmas
 mod PatternLemmas

@@ -1,4 +1,6 @@
 mod BestRoute
+mod PlaceLemmas
 mod RouteOrder
 mod Search
 pub mod TableLemmas
+mod ValidPaths

@@ -22,11 +22,11 @@ use Rattle.kg_router.specs.Table.{IsCandidate, AreListed, IsTable}
 use Rattle.kg_router.proofs.BestRoute.{AreApart, best-found, best-none}
 use Rattle.kg_router.proofs.RouteOrder.{rank_cmp_total, route_cmp_by_rank}
 
-and_left : (a b : Bool) → (a && b) ≡ true → a ≡ true
+pub and_left : (a b : Bool) → (a && b) ≡ true → a ≡ true
 and_left true b both = refl
 and_left false b both = absurd (cc)
 
-and_right : (a b : Bool) → (a && b) ≡ true → b ≡ true
+pub and_right : (a b : Bool) → (a && b) ≡ true → b ≡ true
 and_right true b both = both
 and_right false b both = absurd (cc)
 

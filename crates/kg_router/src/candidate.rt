@@ -5,9 +5,11 @@ ghost use Rattle.std.specs.List.{position};
 ghost use Rattle.std.specs.List.Sorted.{IsPermutation, IsSortedByKey};
 ghost use Rattle.kg_router.specs.declared.candidate.Candidate.{Candidate as ACandidate};
 ghost use Rattle.kg_router.specs.Best.{service_of};
+ghost use Rattle.kg_router.specs.Places.{ArePlaces};
 ghost use Rattle.kg_router.specs.Ranks.{rank_cmp};
 ghost use Rattle.kg_router.specs.Table.{AreListed, IsTable, LeadsTo};
 
+use crate::places::ServicePlaces;
 use crate::rank::Rank;
 use kg_entities::{Id, Route, Service};
 use kg_match::RouteTest;
@@ -31,7 +33,8 @@ pub fn in_order(
 ) -> Result<Vec<Candidate>, NoMemory>
     ensures { IfOk result (λ candidates. IsTable services.now tests.now candidates.items) }
 {
-    let mut candidates = listed(alloc, services, tests)?;
+    let places = ServicePlaces::of(alloc, services)?;
+    let mut candidates = listed(alloc, services, &places, tests)?;
     sort(&mut candidates)?;
     Ok(candidates)
 }
@@ -40,13 +43,15 @@ pub fn in_order(
 fn listed(
     alloc: Global,
     services: &[Service],
+    places: &ServicePlaces,
     tests: &[RouteTest],
 ) -> Result<Vec<Candidate>, NoMemory>
+    requires { ArePlaces services.now places.now }
     ensures { IfOk result (λ candidates. AreListed services.now tests.now (length tests.now) candidates.items) }
 {
     let mut candidates = Vec::new(alloc);
     for (place, test) in tests.iter().enumerate() {
-        match service_place(services, test.route()) {
+        match service_place(services, places, test.route()) {
             Some(service) => candidates.push(Candidate {
                 rank: Rank::of(test.route()),
                 test: place,
@@ -66,10 +71,11 @@ fn sort(candidates: &mut Vec<Candidate>) -> Result<(), AllocError>
 }
 
 // Where the service stands that the route leads to, if it is there and enabled.
-fn service_place(services: &[Service], route: &Route) -> Option<usize>
+fn service_place(services: &[Service], places: &ServicePlaces, route: &Route) -> Option<usize>
+    requires { ArePlaces services.now places.now }
     ensures { MatchOption result (service_of services.now route.now ≡ None) (LeadsTo services.now route.now) }
 {
-    match place_of(services, route.service) {
+    match place_of(services, places, route.service) {
         Some(place) => {
             if services[place].enabled {
                 Some(place)
@@ -82,9 +88,10 @@ fn service_place(services: &[Service], route: &Route) -> Option<usize>
 }
 
 // Where the first service of this id stands.
-fn place_of(services: &[Service], id: Id) -> Option<usize>
+fn place_of(services: &[Service], places: &ServicePlaces, id: Id) -> Option<usize>
+    requires { ArePlaces services.now places.now }
     ensures value { result ≡ position (λ service. service.id == id) services.now }
     ensures within { IfSome result (λ place. place < length services.now) }
 {
-    services.iter().position(|service| service.id == id)
+    places.get(id)
 }

@@ -1,8 +1,9 @@
 //! The search for the best route.
 
-ghost use Rattle.std.specs.Prelude.{◌≡◌, IfOk, IsTrue, OnErr, option_map};
+ghost use Rattle.std.specs.Prelude.{◌≡◌, ◌&&◌, All, IfOk, IsTrue, OnErr, option_map};
 ghost use Rattle.std.specs.List.{list_any};
-ghost use Rattle.kg_match.specs.Fits.{match_of};
+ghost use Rattle.kg_entities.specs.ValidRows.{IsValidRoute};
+ghost use Rattle.kg_match.specs.Fits.{fits_but_path, match_of};
 ghost use Rattle.kg_match.specs.RoutePaths.{has_regex_path};
 ghost use Rattle.kg_router.specs.Best.{best_choice};
 ghost use Rattle.kg_router.specs.Found.{choice_at};
@@ -36,44 +37,58 @@ pub struct RouterGen {
 }
 
 impl Model for RouterGen {
-    ghost use Rattle.kg_router.specs.RouterRows.{RouterRows};
+    ghost use Rattle.kg_router.specs.RouterRows.{HasDistinctRoutes, RouterRows};
     ghost use Rattle.kg_router.specs.Table.{IsTable};
 
     ghost Value = { RouterRows };
 
     ghost view = { λ gen. record { rev = gen.rev; services = gen.services; routes = gen.tests } };
 
-    ghost invariant = { λ gen. IsTable gen.services gen.tests gen.candidates.items };
+    ghost invariant = { λ gen. HasDistinctRoutes gen.tests × IsTable gen.services gen.tests gen.candidates.items };
 }
 
 impl RouterGen {
-    /// Copies of these rows, with the routes in the order in which they are tried. A pattern that
-    /// is too big to compile counts as want of memory, and so does a bad one, which no valid route
-    /// has.
+    /// Copies of these rows, with the routes in the order in which they are tried. The routes are
+    /// valid and have distinct ids. A pattern that is too big to compile counts as want of memory.
     pub fn build(
         alloc: Global,
         rev: u64,
         services: &List<Service>,
         routes: &List<Route>,
     ) -> Result<RouterGen, NoMemory>
+        requires valid { All IsValidRoute routes.now }
+        requires distinct { HasDistinctRoutes routes.now }
         ensures { IfOk result (λ gen. gen ≡ record { rev = rev; services = services.now; routes = routes.now }) }
     {
-        let services = services.try_clone(alloc)?;
-        let tests = tests_of(alloc, routes.as_slice())?;
-        let candidates = in_order(alloc, services.as_slice(), tests.as_slice())?;
+        RouterGen::of_slices(alloc, rev, services.as_slice(), routes.as_slice())
+    }
+
+    /// As `build`, for rows in slices.
+    pub fn of_slices(
+        alloc: Global,
+        rev: u64,
+        services: &[Service],
+        routes: &[Route],
+    ) -> Result<RouterGen, NoMemory>
+        requires valid { All IsValidRoute routes.now }
+        requires distinct { HasDistinctRoutes routes.now }
+        ensures { IfOk result (λ gen. gen ≡ record { rev = rev; services = services.now; routes = routes.now }) }
+    {
+        let tests = tests_of(alloc, routes)?;
+        let candidates = in_order(alloc, services, tests.as_slice())?;
         Ok(RouterGen {
             rev,
-            services,
+            services: copies(alloc, services)?,
             tests,
             candidates,
         })
     }
 
-    /// The best of the routes that take the request, if one does. The routes have distinct ids, as
-    /// valid rows do. It takes memory only for regex paths.
+    /// The best of the routes that take the request, if one does, with its service. It takes memory
+    /// only for the regex paths of a route that all else fits.
     pub fn find(&self, alloc: Global, request: &Request) -> Result<Option<Choice<'_>>, NoMemory>
-        ensures found { HasDistinctRoutes self.now.routes → IfOk result (λ found. option_map choice_at found ≡ best_choice self.now.services self.now.routes request.now) }
-        ensures err { OnErr result (IsTrue (list_any has_regex_path self.now.routes)) }
+        ensures found { IfOk result (λ found. option_map choice_at found ≡ best_choice self.now.services self.now.routes request.now) }
+        ensures err { OnErr result (IsTrue (list_any (λ route. has_regex_path route && fits_but_path route request.now) self.now.routes)) }
     {
         let services = self.services.as_slice();
         let tests = self.tests.as_slice();
@@ -101,7 +116,18 @@ impl RouterGen {
     }
 }
 
+fn copies(alloc: Global, services: &[Service]) -> Result<List<Service>, NoMemory>
+    ensures { IfOk result (λ copies. copies ≡ services.now) }
+{
+    let mut copies = List::new(alloc);
+    for service in services {
+        copies.push(service.try_clone(alloc)?)?;
+    }
+    Ok(copies)
+}
+
 fn tests_of(alloc: Global, routes: &[Route]) -> Result<List<RouteTest>, NoMemory>
+    requires { All IsValidRoute routes.now }
     ensures { IfOk result (λ tests. tests ≡ routes.now) }
 {
     let mut tests = List::new(alloc);
@@ -112,11 +138,12 @@ fn tests_of(alloc: Global, routes: &[Route]) -> Result<List<RouteTest>, NoMemory
 }
 
 fn test_of(alloc: Global, route: &Route) -> Result<RouteTest, NoMemory>
+    requires { IsValidRoute route.now }
     ensures { IfOk result (λ test. test ≡ route.now) }
 {
     match RouteTest::build(alloc, route) {
         Ok(test) => Ok(test),
-        Err(BuildError::BadPattern { .. }) => Err(NoMemory),
+        Err(BuildError::BadPattern { .. }) => unreachable!(),
         Err(BuildError::NoMemory) => Err(NoMemory),
     }
 }

@@ -4,6 +4,7 @@
 
 mod candidate;
 mod generation;
+mod places;
 mod rank;
 #[cfg(test)]
 mod tests;

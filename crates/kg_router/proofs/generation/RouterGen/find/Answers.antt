@@ -3,7 +3,6 @@ use Rattle.std.proofs.lemmas.List.{get_or_default, take_all, take_more}
 use Rattle.std.proofs.lemmas.List.Elements.{All-push}
 use Rattle.kg_match.specs.Fits.{fits}
 use Rattle.kg_router.specs.Best.{best_choice}
-use Rattle.kg_router.specs.RouterRows.{HasDistinctRoutes}
 use Rattle.kg_router.specs.Table.{IsTable}
 use Rattle.kg_router.proofs.BestRoute.{apart}
 use Rattle.kg_router.proofs.TableLemmas.{IsUnfit, matched, unmatched, first-takes, none-takes}
@@ -11,19 +10,19 @@ use Rattle.kg_router.proofs.generation.RouterGen.find.Goals as goal
 
 -- the first candidate whose route fits
 pub returns-in-Some-clause-found : goal.returns-in-Some-clause-found
-returns-in-Some-clause-found c distinct =
+returns-in-Some-clause-found c =
     let request = c.args.request.now in
     let services = c.as_slice-services.result.now in
     let tests = c.as_slice-tests.result.now in
     let candidates = c.as_slice-candidate-items.result.now in
-    let table : IsTable services tests candidates = rw (c.as_slice-services.ensures, c.as_slice-tests.ensures, c.as_slice-candidate-items.ensures.value) c.self.invariant in
+    let table : IsTable services tests candidates = rw (c.as_slice-services.ensures, c.as_slice-tests.ensures, c.as_slice-candidate-items.ensures.value) c.self.invariant.1 in
     let same_services = c.as_slice-services.ensures ∙ ap (λ rows. rows.services) c.self.view_is in
     let same_routes = c.as_slice-tests.ensures ∙ ap (λ rows. rows.routes) c.self.view_is in
     let route = c.index-tests-candidate.result in
     let service = c.index-services-candidate.result in
     let match = matched route request c.in-Some.cut (sym c.in_ok-cut.ensures.cut ∙ c.in-Some.is) in
     (λ i. Some (record { route = c.route.ensures i; service = service; cut = match.1 i }))
-    ∙ sym (first-takes services tests candidates request table (apart tests (subst HasDistinctRoutes (sym same_routes) distinct))
+    ∙ sym (first-takes services tests candidates request table (apart tests (rw c.as_slice-tests.ensures c.self.invariant.0))
     c.loop-candidate.candidate-index c.candidate-item.result c.loop-candidate-test.true (sym c.candidate-item.is) c.loop-candidate.invariant
     route service (sym c.index-tests-candidate.is) (sym c.index-services-candidate.is) match.0)
     ∙ (λ i. best_choice (same_services i) (same_routes i) request)
@@ -35,7 +34,7 @@ loop-candidate-preserved c =
     let services = c.as_slice-services.result.now in
     let tests = c.as_slice-tests.result.now in
     let candidates = c.as_slice-candidate-items.result.now in
-    let table : IsTable services tests candidates = rw (c.as_slice-services.ensures, c.as_slice-tests.ensures, c.as_slice-candidate-items.ensures.value) c.self.invariant in
+    let table : IsTable services tests candidates = rw (c.as_slice-services.ensures, c.as_slice-tests.ensures, c.as_slice-candidate-items.ensures.value) c.self.invariant.1 in
     let at = c.loop-candidate.candidate-index in
     let candidate = c.candidate-item.result in
     let below = c.loop-candidate-test.true in
@@ -47,14 +46,14 @@ loop-candidate-preserved c =
 
 -- none fits
 pub returns-clause-found : goal.returns-clause-found
-returns-clause-found c distinct =
+returns-clause-found c =
     let request = c.args.request.now in
     let services = c.as_slice-services.result.now in
     let tests = c.as_slice-tests.result.now in
     let candidates = c.as_slice-candidate-items.result.now in
-    let table : IsTable services tests candidates = rw (c.as_slice-services.ensures, c.as_slice-tests.ensures, c.as_slice-candidate-items.ensures.value) c.self.invariant in
+    let table : IsTable services tests candidates = rw (c.as_slice-services.ensures, c.as_slice-tests.ensures, c.as_slice-candidate-items.ensures.value) c.self.invariant.1 in
     let same_services = c.as_slice-services.ensures ∙ ap (λ rows. rows.services) c.self.view_is in
     let same_routes = c.as_slice-tests.ensures ∙ ap (λ rows. rows.routes) c.self.view_is in
     let whole = take_all c.loop-candidate.candidate-index candidates c.loop-candidate-test.false in
-    sym (none-takes services tests candidates request table (apart tests (subst HasDistinctRoutes (sym same_routes) distinct)) (subst (All (IsUnfit tests request)) whole c.loop-candidate.invariant))
+    sym (none-takes services tests candidates request table (apart tests (rw c.as_slice-tests.ensures c.self.invariant.0)) (subst (All (IsUnfit tests request)) whole c.loop-candidate.invariant))
     ∙ (λ i. best_choice (same_services i) (same_routes i) request)
