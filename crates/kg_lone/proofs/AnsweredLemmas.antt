@@ -13,7 +13,8 @@ use Rattle.kg_wire.specs.Messages.{Message, IsRequest, NeverBegins, BeginsNoRequ
 use Rattle.kg_wire.specs.Reading.{ReaderState, Takes, Grows, Refuses, IsCut, IsEnded, IsNothing}
 use Rattle.kg_wire.specs.declared.reader.ReadError.TheVariants.{Bad as BadMessage, Cut as CutMessage}
 use Rattle.kg_lone.specs.Answered.{Answered, AnsweredOn, AnswersAll, AnswersFront, EndsAhead}
-use Rattle.kg_lone.specs.DryText.{GoOn, IsFront, asks, last_text, local_address, most_requests, texts}
+use Rattle.kg_lone.specs.DryText.{GoOn, asks, last_text, local_address, most_requests, texts}
+use Rattle.kg_lone.specs.Fronts.{IsFront}
 use Rattle.kg_lone.specs.Plain.{bad_request_text, reply_to}
 use Rattle.kg_lone.specs.declared.dry.End.{End}
 use Rattle.kg_lone.specs.declared.dry.End.TheVariants.{Closed, Asked, Spent, Bad, Cut}
@@ -96,6 +97,15 @@ pub front_written : (before now : Option (List ℕ)) (bytes text : List ℕ) →
     → (front : List ℕ) × IsFront front text × (now ≡ with_end before front)
 front_written before now bytes text same (n, within, written) =
     (take n bytes, (drop n bytes, sym same ∙ sym (take-append-drop n bytes)), written)
+
+-- a reply by the same rows
+pub by_rows : (now rows : RouterRows) (last : Bool) (request : Request) (before after : Option (List ℕ)) → now ≡ rows
+    → after ≡ with_end before (reply_to now last request) → after ≡ with_end before (reply_to rows last request)
+by_rows now rows last request before after same is = is ∙ ap (λ r. with_end before (reply_to r last request)) same
+
+pub front_by_rows : (now rows : RouterRows) (last : Bool) (request : Request) (front : List ℕ) → now ≡ rows
+    → IsFront front (reply_to now last request) → IsFront front (reply_to rows last request)
+front_by_rows now rows last request front same is = subst (λ r. IsFront front (reply_to r last request)) same is
 
 -- the request that the reader took is in front of what it holds then
 taken_next : (before now : ReaderState) (left later : Option (List ℕ)) (request : Request) (t : Takes before now left later request)

@@ -119,26 +119,25 @@ fn answer_bad<K: Sink>(alloc: Global, sink: &mut K) -> Result<(), Stop>
 // Answers the requests of the source, one after another.
 fn answer_all<S: Source, K: Sink, T: Clock>(
     alloc: Global,
-    gateway: Gateway,
+    gateway: &mut Gateway,
     source: &mut S,
     sink: &mut K,
     clock: &mut T,
 ) -> Result<End, Stop>
-    ensures ok { IfOk result (AnswersAll gateway (T.reads clock.old clock.new) (S.left source.old) (K.written sink.old) (K.written sink.new)) }
-    ensures err { OnErr result (AnswersFront gateway (T.reads clock.old clock.new) (S.left source.old) (K.written sink.old) (K.written sink.new)) }
+    ensures ok { IfOk result (AnswersAll gateway.old (T.reads clock.old clock.new) (S.left source.old) (K.written sink.old) (K.written sink.new)) }
+    ensures err { OnErr result (AnswersFront gateway.old (T.reads clock.old clock.new) (S.left source.old) (K.written sink.old) (K.written sink.new)) }
     ensures kept_read { IfOk result (λ end. ¬ (IsBroken end) → S.faults source.new ≡ S.faults source.old) }
     ensures kept_write { OnOk result (K.faults sink.new ≡ K.faults sink.old) }
     ensures read { IsErrOf result Stop.ReadFault → Rose (S.faults source.old) (S.faults source.new) }
     ensures write { IsErrOf result Stop.WriteFault → Rose (K.faults sink.old) (K.faults sink.new) }
 {
-    let mut gateway = gateway;
     let mut reader = Reader::new(alloc, LOCAL_ADDRESS)?;
     let mut count = 0;
     while count < MOST_REQUESTS {
         match reader.next_request(alloc, source) {
             Ok(Some(request)) => {
                 let last = count + 1 == MOST_REQUESTS;
-                answer_one(alloc, &mut gateway, &request, last, sink, clock)?;
+                answer_one(alloc, gateway, &request, last, sink, clock)?;
                 if asks_for_end(&request) {
                     return Ok(End::Asked);
                 }
@@ -177,11 +176,11 @@ fn answered<S: Source, K: Sink, T: Clock>(
     ensures read { result ≡ 4 → Rose (S.faults source.old) (S.faults source.new) }
     ensures write { result ≡ 5 → Rose (K.faults sink.old) (K.faults sink.new) }
 {
-    let gateway = match gateway_of(alloc, commands) {
+    let mut gateway = match gateway_of(alloc, commands) {
         Ok(gateway) => gateway,
         Err(NoMemory) => return OUT_OF_MEMORY,
     };
-    match answer_all(alloc, gateway, source, sink, clock) {
+    match answer_all(alloc, &mut gateway, source, sink, clock) {
         Ok(End::Closed) => DONE,
         Ok(End::Asked) => DONE,
         Ok(End::Spent) => DONE,

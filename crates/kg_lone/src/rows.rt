@@ -1,11 +1,10 @@
 //! The router over the rows that commands insert.
 
 ghost use Rattle.std.specs.Prelude.{◌≡◌, [], ◌∷◌, ◌++◌, IfOk, OnOk};
-ghost use Rattle.std.specs.List.{filter_map};
 ghost use Rattle.kg_declare.specs.Histories.{AreInsertions};
 ghost use Rattle.kg_rows.specs.Rows.{rows_after};
 ghost use Rattle.kg_lone.specs.DryText.{most_rows};
-ghost use Rattle.kg_lone.specs.InsertedRows.{route_in, router_rows, routes_in, service_in, services_in};
+ghost use Rattle.kg_lone.specs.InsertedRows.{router_rows, routes_in, services_in};
 
 use kg_entities::{Entity, Route, Service};
 use kg_router::RouterGen;
@@ -14,6 +13,7 @@ use kg_text::{List, NoMemory};
 use std::alloc::Global;
 
 /// The router over the services and routes that the commands insert.
+#[tactic(auto, using(crate::proofs::InsertedLemmas::services_are, crate::proofs::InsertedLemmas::routes_are))]
 pub fn router_of(alloc: Global, commands: List<Command>) -> Result<RouterGen, NoMemory>
     requires { AreInsertions most_rows commands }
     ensures { IfOk result (λ router. router ≡ router_rows (rows_after commands)) }
@@ -23,6 +23,7 @@ pub fn router_of(alloc: Global, commands: List<Command>) -> Result<RouterGen, No
 }
 
 // The services and the routes that the commands insert.
+#[tactic(auto, using(crate::proofs::InsertedLemmas::services_push, crate::proofs::InsertedLemmas::routes_push))]
 fn inserted_rows(
     alloc: Global,
     commands: List<Command>,
@@ -42,8 +43,8 @@ fn add_row(
     services: &mut List<Service>,
     routes: &mut List<Route>,
 ) -> Result<(), NoMemory>
-    ensures services { OnOk result (services.new ≡ services.old ++ filter_map service_in (command ∷ [])) }
-    ensures routes { OnOk result (routes.new ≡ routes.old ++ filter_map route_in (command ∷ [])) }
+    ensures services { OnOk result (services.new ≡ services.old ++ services_in (command ∷ [])) }
+    ensures routes { OnOk result (routes.new ≡ routes.old ++ routes_in (command ∷ [])) }
 {
     match command {
         Command::Insert(Entity::Service(service)) => services.push(service),
