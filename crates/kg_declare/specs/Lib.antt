@@ -1,4 +1,5 @@
 pub mod Faults
+pub mod Histories
 pub mod Outcome
 pub mod RefusalBody
 pub mod Rows

@@ -3,6 +3,7 @@ use Rattle.std.specs.Prelude.{◌≡◌, ◌≢◌, ℕ, ◌+◌, List, [], ◌�
 use Rattle.serde_json.specs.Data.{Members}
 use Rattle.kg_entities.specs.Ids.{drawn_id}
 use Rattle.kg_message.specs.declared.response.Response.{Response}
+use Rattle.kg_rows.specs.Rows.{rows_after}
 use Rattle.kg_rows.specs.declared.command.Command.{Command}
 use Rattle.kg_schema.specs.Rules.{Fault}
 use Rattle.kg_declare.specs.Faults.{own_faults}
@@ -68,14 +69,19 @@ pub record Prepares (line : List ℕ) (inserted : List Row) : Type 0 where
   pub faultless : own_faults members ≡ []
   pub rows : rows_of members ≡ inserted
 
--- what a declaration is answered
+-- the rows and commands after these commands, when so many ids were drawn
+abbrev pub progress_after : List Command → ℕ → Progress
+progress_after commands drawn = record { rows = rows_after commands; commands = commands; drawn = drawn }
+
+-- what a declaration is answered: the commands, or the refusal; want of memory is free
 abbrev pub Answers : Result (List Command) DeclareError → Result Progress Refused → ℕ → Type 0
-Answers (Ok commands) meant drawn = (progress : Progress) × (meant ≡ Ok progress) × (progress.commands ≡ commands) × (progress.drawn ≡ drawn)
+Answers (Ok commands) meant drawn = meant ≡ Ok (progress_after commands drawn)
 Answers (Err e) meant drawn = IsRefusedAt e meant drawn
 
--- the ids that it drew are those that it means to draw, and its answer is the one for these ids
+-- the ids that it drew are those that it means to draw, and its answer is the one for these ids, whatever ids
+-- are drawn after them
 pub record Declares {S : Type 0} (draws : S → S → List (List ℕ) → Type 0) (before now : S)
     (result : Result (List Command) DeclareError) (meant : List (List ℕ) → Result Progress Refused) : Type 0 where
   pub drawn : List (List ℕ)
   pub moved : draws before now drawn
-  pub answers : Answers result (meant drawn) (length drawn)
+  pub answers : (more : List (List ℕ)) → Answers result (meant (drawn ++ more)) (length drawn)

@@ -4,6 +4,7 @@ ghost use Rattle.std.specs.Prelude.{◌≡◌, ℕ, List as Sequence, [], IfErr,
 ghost use Rattle.serde_json.specs.Find.{as_object};
 ghost use Rattle.serde_json.specs.View.{members_view, view};
 ghost use Rattle.kg_declare.specs.Faults.{own_faults};
+ghost use Rattle.kg_declare.specs.Histories.{AreInsertions};
 ghost use Rattle.kg_declare.specs.Outcome.{declaration_of, json_of, outcome};
 ghost use Rattle.kg_declare.specs.SeenRows.{seen_all};
 ghost use Rattle.kg_declare.specs.Steps.{Declares, IsRefusedAt, IsUnread, Prepares, TellsFaults};
@@ -38,7 +39,8 @@ pub fn declare<I: Ids>(
     now: u64,
     limit: u32,
 ) -> Result<List<Command>, DeclareError>
-    ensures { Declares I.draws ids.old ids.new result (outcome line.now now limit) }
+    ensures outcome { Declares I.draws ids.old ids.new result (outcome line.now now limit) }
+    ensures commands { IfOk result (AreInsertions limit) }
 {
     let rows = match prepared(alloc, line) {
         Ok(rows) => rows,

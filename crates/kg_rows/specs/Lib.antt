@@ -7,5 +7,6 @@ pub mod Decision
 pub mod References
 pub mod Rows
 pub mod Selections
+pub mod ValidCommands
 pub mod Values
 pub mod Watching

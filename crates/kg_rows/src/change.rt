@@ -4,6 +4,8 @@ ghost use Rattle.std.specs.Prelude.{◌≡◌, IsTrue, IfOk, OnOk, OnErr};
 ghost use Rattle.kg_rows.specs.Allowed.{is_consistent};
 ghost use Rattle.kg_rows.specs.Changes.{NamesChanges};
 ghost use Rattle.kg_rows.specs.Rows.{changed, deleted};
+ghost use Rattle.kg_rows.specs.ValidCommands.{IsValidCommand};
+ghost use Rattle.kg_entities.specs.ValidRows.{AreValidRows, HasDistinctRows, HasReferences};
 
 use crate::candidates::candidates;
 use crate::command::Command;
@@ -15,12 +17,17 @@ use kg_text::{List, NoMemory};
 use std::alloc::Global;
 
 /// Changes the rows as the command says, and tells exactly the keys and generations whose values
-/// differ after it. It takes its memory first: without memory the rows are as before.
+/// differ after it. It takes its memory first: without memory the rows are as before. Valid rows stay
+/// valid where the row that is put is valid; what only one row may have stays with one, and what a row
+/// names stays there.
 pub fn apply(alloc: Global, rows: &mut Rows, command: &Command) -> Result<Touched, NoMemory>
     requires { IsTrue (is_consistent rows.old command.now) }
     ensures ok { OnOk result (rows.new ≡ changed command.now rows.old) }
     ensures touched { IfOk result (λ touched. NamesChanges rows.old (changed command.now rows.old) touched) }
     ensures err { OnErr result (rows.new ≡ rows.old) }
+    ensures valid { IsValidCommand command.now → AreValidRows rows.old → AreValidRows rows.new }
+    ensures distinct { HasDistinctRows rows.old → HasDistinctRows rows.new }
+    ensures references { HasReferences rows.old → HasReferences rows.new }
 {
     let asked = candidates(alloc, rows, command)?;
     let watched = watch(alloc, rows, asked)?;

@@ -8,6 +8,8 @@ ghost use Rattle.kg_rows.specs.References.{link_of};
 ghost use Rattle.kg_schema.specs.Bases as base_again;
 ghost use Rattle.kg_schema.specs.Bases.{made_at};
 ghost use Rattle.kg_entities.specs.Entities.{id_of_row};
+ghost use Rattle.kg_entities.specs.ValidRows.{AreValidRows};
+ghost use Rattle.kg_rows.specs.ValidCommands.{IsValidCommand};
 ghost use Rattle.kg_rows.specs.Selections.{rows_in, selected};
 ghost use Rattle.kg_rows.specs.declared.command.Command.TheVariants as command;
 
@@ -19,17 +21,20 @@ use crate::place::{Place, link_of, place_of, selected_in};
 use crate::proposal::{inserted, replaced};
 use crate::select::{Parent, Select};
 use kg_entities::{Entity, Id, Kind, Rows};
-use kg_schema::{Base, Form, Links};
+use kg_schema::{Base, Form, Links, finished_rows_are_valid};
 use kg_text::{NoMemory, Text};
 use std::alloc::Global;
 
 /// The command that makes the change, or why it is refused: the first refusal in the order of
-/// `specs/Decision.antt`. What it gives is allowed. It never answers [`Refusal::HistoryFull`].
+/// `specs/Decision.antt`. What it gives is allowed, and at valid rows the row that it puts is valid. It
+/// never answers [`Refusal::HistoryFull`].
 pub fn decide(alloc: Global, rows: &Rows, draft: &Draft, limit: u32) -> Result<Command, DecideError>
     requires { IsProper draft.now }
     ensures decision { Decides result (decision rows.now draft.now limit) }
     ensures allowed { IfOk result (λ command. IsTrue (is_allowed rows.now command limit)) }
+    ensures valid { AreValidRows rows.now → IfOk result IsValidCommand }
 {
+    finished_rows_are_valid();
     decided(alloc, rows, draft, limit)
 }
 
