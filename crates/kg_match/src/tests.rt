@@ -97,6 +97,9 @@ fn paths_take_their_bytes(rt: HostRuntime) -> Result<(), Fail> {
         (["~a"].as_slice(), "/a", None),
         (["~a|/"].as_slice(), "/a", Some(1)),
         (["~/a$"].as_slice(), "/a/b", None),
+        // Of alternatives the first that fits counts.
+        (["~/a|/ab"].as_slice(), "/ab", Some(2)),
+        (["~/ab|/a"].as_slice(), "/ab", Some(3)),
         (["~/[0-9]+"].as_slice(), "/42/x", Some(3)),
         (["~"].as_slice(), "/a", Some(0)),
     ] {
@@ -185,6 +188,19 @@ fn first_bad_pattern_is_told(rt: HostRuntime) -> Result<(), Fail> {
         Ok(_) => Err(Fail::from("the route is taken")),
         Err(error) => {
             assert_eq!(rt; error, BuildError::BadPattern { index: 2 });
+            Ok(())
+        }
+    }
+}
+
+#[test]
+fn pattern_that_is_too_big_wants_memory(rt: HostRuntime) -> Result<(), Fail> {
+    let alloc = rt.alloc();
+    let route = route(alloc, &[], &[], &[], &["~/a{1000}{1000}{1000}"])?;
+    match RouteTest::build(alloc, &route) {
+        Ok(_) => Err(Fail::from("the route is taken")),
+        Err(error) => {
+            assert_eq!(rt; error, BuildError::NoMemory);
             Ok(())
         }
     }

@@ -3,4 +3,5 @@ mod PlaceLemmas
 mod RouteOrder
 mod Search
 pub mod TableLemmas
+mod TestRoutes
 mod ValidPaths

@@ -13,7 +13,7 @@ use crate::candidate::{Candidate, in_order};
 use kg_entities::{Route, Service};
 use kg_match::{BuildError, RouteTest};
 use kg_message::Request;
-use kg_text::{List, NoMemory, TryClone};
+use kg_text::{List, NoMemory, TryClone, host_part};
 use std::alloc::Global;
 use std::marker::Model;
 
@@ -74,7 +74,19 @@ impl RouterGen {
         requires distinct { HasDistinctRoutes routes.now }
         ensures { IfOk result (λ gen. gen ≡ record { rev = rev; services = services.now; routes = routes.now }) }
     {
-        let tests = tests_of(alloc, routes)?;
+        RouterGen::of_tests(alloc, rev, services, tests_of(alloc, routes)?)
+    }
+
+    /// As `build`, for the tests of the routes.
+    pub(crate) fn of_tests(
+        alloc: Global,
+        rev: u64,
+        services: &[Service],
+        tests: List<RouteTest>,
+    ) -> Result<RouterGen, NoMemory>
+        requires { HasDistinctRoutes tests }
+        ensures { IfOk result (λ gen. gen ≡ record { rev = rev; services = services.now; routes = tests }) }
+    {
         let candidates = in_order(alloc, services, tests.as_slice())?;
         Ok(RouterGen {
             rev,
@@ -92,9 +104,10 @@ impl RouterGen {
     {
         let services = self.services.as_slice();
         let tests = self.tests.as_slice();
+        let host = host_part(request.host.as_slice());
         for candidate in self.candidates.as_slice() {
             let test = &tests[candidate.test];
-            match test.matches(alloc, request)? {
+            match test.matches_at(alloc, host, request)? {
                 Some(cut) => {
                     return Ok(Some(Choice {
                         route: test.route(),

@@ -2,22 +2,22 @@
 
 mod fixtures;
 
-use crate::generation::RouterGen;
 use crate::rank::Rank;
-use crate::tests::fixtures::{BLANK, Shape, id, request, route, routes, services};
+use crate::tests::fixtures::{BLANK, Shape, id, request, route, router, valid_router};
 use kg_entities::Id;
 use std::cmp::Ordering;
 use std::test::Fail;
 
-// Which of these routes a request finds, and how many bytes of its path the route takes.
+// Which of two routes a request finds, and how many bytes of its path the route takes.
 fn found(
     rt: &HostRuntime,
-    shapes: &[Shape<'_>],
+    first: Shape<'_>,
+    second: Shape<'_>,
     host: &str,
     path: &str,
 ) -> Result<Option<(Id, usize)>, Fail> {
     let alloc = rt.alloc();
-    let router = RouterGen::build(alloc, 7, &services(alloc)?, &routes(alloc, shapes)?)?;
+    let router = router(alloc, first, second)?;
     match router.find(alloc, &request(alloc, host, path)?)? {
         Some(choice) => Ok(Some((choice.route.id, choice.cut))),
         None => Ok(None),
@@ -36,8 +36,8 @@ fn smaller_id_breaks_the_last_tie(rt: HostRuntime) -> Result<(), Fail> {
         paths: &["/t"],
         ..BLANK
     };
-    assert_eq!(rt; found(&rt, &[second, third], "", "/t")?, Some((id(2), 2)));
-    assert_eq!(rt; found(&rt, &[third, second], "", "/t")?, Some((id(2), 2)));
+    assert_eq!(rt; found(&rt, second, third, "", "/t")?, Some((id(2), 2)));
+    assert_eq!(rt; found(&rt, third, second, "", "/t")?, Some((id(2), 2)));
     Ok(())
 }
 
@@ -61,7 +61,7 @@ fn plain_host_comes_before_a_wildcard(rt: HostRuntime) -> Result<(), Fail> {
         ("x.b.example", Some((id(1), 2))),
         (".b.example", None),
     ] {
-        assert_eq!(rt; found(&rt, &[wild, plain], host, "/t")?, want, "{host}");
+        assert_eq!(rt; found(&rt, wild, plain, host, "/t")?, want, "{host}");
     }
     Ok(())
 }
@@ -79,47 +79,39 @@ fn regex_path_comes_before_a_longer_prefix(rt: HostRuntime) -> Result<(), Fail> 
         paths: &["/a/long"],
         ..BLANK
     };
-    let shapes = [plain, regex];
-    assert_eq!(rt; found(&rt, &shapes, "", "/a/long/x")?, Some((id(2), 2)));
-    assert_eq!(rt; found(&rt, &shapes, "", "/b/a")?, None);
+    assert_eq!(rt; found(&rt, plain, regex, "", "/a/long/x")?, Some((id(2), 2)));
+    assert_eq!(rt; found(&rt, plain, regex, "", "/b/a")?, None);
     Ok(())
 }
 
 #[test]
 fn services_that_take_no_part_hide_their_routes(rt: HostRuntime) -> Result<(), Fail> {
-    let shapes = [
-        Shape {
-            id: 9,
-            paths: &["/a"],
-            ..BLANK
-        },
-        Shape {
+    let open = Shape {
+        id: 9,
+        paths: &["/a"],
+        ..BLANK
+    };
+    // The service of id 2 is disabled, and one of id 3 isn't there.
+    for service in [2, 3] {
+        let hidden = Shape {
             id: 5,
-            service: 2,
-            paths: &["/a/off"],
+            service,
+            paths: &["/a/b"],
             ..BLANK
-        },
-        Shape {
-            id: 4,
-            service: 3,
-            paths: &["/a/lost"],
-            ..BLANK
-        },
-    ];
-    for path in ["/a", "/a/off", "/a/lost"] {
-        assert_eq!(rt; found(&rt, &shapes, "", path)?, Some((id(9), 2)), "{path}");
+        };
+        assert_eq!(rt; found(&rt, hidden, open, "", "/a/b")?, Some((id(9), 2)), "{service}");
     }
-    assert_eq!(rt; found(&rt, &shapes, "", "/b")?, None);
     Ok(())
 }
 
 #[test]
-fn revision_and_service_are_told(rt: HostRuntime) -> Result<(), Fail> {
+fn revision_route_and_service_are_told(rt: HostRuntime) -> Result<(), Fail> {
     let alloc = rt.alloc();
-    let router = RouterGen::build(alloc, 7, &services(alloc)?, &routes(alloc, &[BLANK])?)?;
+    let router = valid_router(alloc)?;
     let request = request(alloc, "", "/")?;
     let choice = router.find(alloc, &request)?.ok_or("no route")?;
     assert_eq!(rt; router.rev(), 7);
+    assert_eq!(rt; choice.route.id, id(2));
     assert_eq!(rt; choice.service.id, id(1));
     Ok(())
 }

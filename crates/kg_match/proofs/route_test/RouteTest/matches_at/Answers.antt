@@ -3,7 +3,7 @@ use Rattle.kg_match.specs.Fits.{fits_but_path}
 use Rattle.kg_match.specs.RoutePaths.{has_regex_path}
 use Rattle.std.proofs.lemmas.Result.{on_err_weaker}
 use Rattle.kg_match.proofs.PathLemmas.{some_pattern}
-use Rattle.kg_match.proofs.route_test.RouteTest.matches.Goals as goal
+use Rattle.kg_match.proofs.route_test.RouteTest.matches_at.Goals as goal
 
 -- only a search for a pattern takes memory
 pub returns-clause-err : goal.returns-clause-err
