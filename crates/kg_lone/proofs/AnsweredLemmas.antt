@@ -12,7 +12,7 @@ use Rattle.kg_wire.specs.Connection.{asks_for_end}
 use Rattle.kg_wire.specs.Messages.{Message, IsRequest, NeverBegins, BeginsNoRequest, print_message, request_of}
 use Rattle.kg_wire.specs.Reading.{ReaderState, Takes, Grows, Refuses, IsCut, IsEnded, IsNothing}
 use Rattle.kg_wire.specs.declared.reader.ReadError.TheVariants.{Bad as BadMessage, Cut as CutMessage}
-use Rattle.kg_lone.specs.Answered.{Answered, AnsweredOn, AnswersAll, AnswersFront, EndsAhead}
+use Rattle.kg_lone.specs.Answered.{Answered, AnsweredOn, AnswersAll, AnswersFront, EndsAhead, EndsWith}
 use Rattle.kg_lone.specs.DryText.{GoOn, asks, last_text, local_address, most_requests, texts}
 use Rattle.kg_lone.specs.Fronts.{IsFront}
 use Rattle.kg_lone.specs.Plain.{bad_request_text, reply_to}
@@ -315,3 +315,16 @@ cut_ahead ms n at have held now left later on counted few grows cut rest ahead =
         let none : more ≡ [] = ended more refl in
         let same : rest ≡ now ++ more = cc in
         subst IsCut (sym (same ∙ ap (λ t. now ++ t) none ∙ append-nil now)) cut.1
+
+-- ---- the status
+
+-- the answering by these rows ends with its status
+pub ends_with_rows : (now rows : RouterRows) (Read : List ℕ → Type 0) (left before written : Option (List ℕ)) (status : ℕ) → now ≡ rows
+    → EndsWith now Read left before written status → EndsWith rows Read left before written status
+ends_with_rows now rows Read left before written status same ends =
+    subst (λ r. EndsWith r Read left before written status) same ends
+
+-- or it was cut short
+pub front_with_rows : (now rows : RouterRows) (Read : List ℕ → Type 0) (left before written : Option (List ℕ)) → now ≡ rows
+    → AnswersFront now Read left before written → AnswersFront rows Read left before written
+front_with_rows now rows Read left before written same front = subst (λ r. AnswersFront r Read left before written) same front

@@ -12,7 +12,7 @@ use Rattle.kg_outside.specs.Moves.{with_end}
 use Rattle.kg_outside.proofs.Observed.{with_end-nil}
 use Rattle.kg_rows.specs.Rows.{rows_after}
 use Rattle.kg_rows.specs.declared.command.Command.{Command}
-use Rattle.kg_lone.specs.FirstCommands.{AnswersFirst, AnswersLine, Decides, GivesCommands, IsRefusedLine, RefusesWith, WritesFirstFront, WritesRefusal, bad_line, first_outcome, first_text, most_line, not_built, read_outcome, refusal_line, run_outcome, without_plugins}
+use Rattle.kg_lone.specs.FirstCommands.{AnswersFirst, AnswersLine, Decides, GivesCommands, IsRefusedLine, RefusesWith, WritesFirstFront, WritesRefusal, first_outcome, first_text, most_line, not_built, read_outcome, refusal_line, run_outcome, without_plugins}
 use Rattle.kg_lone.specs.FirstLine.{GivesLine, line_of}
 use Rattle.kg_lone.specs.Fronts.{IsFront}
 use Rattle.kg_lone.specs.InsertedRows.{has_plugin}
@@ -59,11 +59,6 @@ accepts line now limit drawn commands (Err (error.Refused response)) are is ok e
     let some = plugins_are commands are.inserts ∙ ap not err.1 in
     ap (next without_plugins) (is more) ∙ rw some (ap (λ r. Err (record { response = r; drawn = length drawn })) (sym err.0))
 accepts line now limit drawn commands (Err error.NoMemory) are is ok err = tt
-
--- a line past the limit
-pub declines_long : (now limit : ℕ) (e : DeclareError) → RefusesWith bad_line e → AnswersLine (Err e) (read_outcome TooLong now limit) []
-declines_long now limit (error.Refused response) is = λ more. ap (λ r. Err (record { response = r; drawn = 0 })) (sym is)
-declines_long now limit error.NoMemory is = tt
 
 -- ---- what the call is answered
 

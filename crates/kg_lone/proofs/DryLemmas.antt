@@ -1,5 +1,5 @@
 -- The text of a dry run: it is determined by what was read, and a run that was cut short wrote a front of it.
-use Rattle.std.proofs.Common.{◌≡◌, ℕ, ◌+◌, ◌<◌, ◌≤◌, ◌==◌, ◌⊎◌, inl, inr, List, [], ◌∷◌, ◌++◌, Option, Some, None, Result, Ok, Err, length, refl, sym, ap, ◌∙◌, subst, arith}
+use Rattle.std.proofs.Common.{◌≡◌, ◌≢◌, ℕ, ◌+◌, ◌<◌, ◌≤◌, ◌==◌, ◌⊎◌, inl, inr, List, [], ◌∷◌, ◌++◌, Option, Some, None, Result, Ok, Err, length, refl, sym, ap, ◌∙◌, subst, arith}
 use Rattle.std.proofs.lemmas.List.{append_assoc, append-nil, length-append}
 use Rattle.std.specs.List.{flat_map}
 use Rattle.kg_outside.specs.Moves.{with_front, with_end}
@@ -8,10 +8,13 @@ use Rattle.kg_router.specs.RouterRows.{RouterRows}
 use Rattle.kg_wire.specs.Messages.{Message, IsReading, BeginsNoRequest, print_message, request_of}
 use Rattle.kg_wire.proofs.MessageLemmas.{reading_front, reading_most, reading_same}
 use Rattle.kg_declare.specs.Outcome.{Progress, Refused as RefusedLine}
+use Rattle.kg_declare.specs.Steps.{progress_after}
+use Rattle.kg_rows.specs.Rows.{rows_after}
+use Rattle.kg_rows.specs.declared.command.Command.{Command}
 use Rattle.kg_lone.specs.Answered.{AnswersAll, AnswersFront, EndsWith, FrontOfReplies}
-use Rattle.kg_lone.specs.DryRun.{IsBroken, IsSameText}
+use Rattle.kg_lone.specs.DryRun.{IsBroken, IsCutShort, IsSameText, IsWhole}
 use Rattle.kg_lone.specs.DryText.{BeginsText, EndsSo, IsDryText, WritesFront, WritesText, last_text, local_address, most_requests, most_rows, status_of, texts}
-use Rattle.kg_lone.specs.FirstCommands.{Decides, WritesFirstFront, WritesRefusal, first_outcome, first_text, refusal_line}
+use Rattle.kg_lone.specs.FirstCommands.{AnswersFirst, Decides, GivesCommands, IsFirstStatus, WritesFirstFront, WritesRefusal, first_outcome, first_text, refusal_line}
 use Rattle.kg_lone.specs.FirstLine.{line_of, after_line}
 use Rattle.kg_lone.specs.Fronts.{IsFront}
 use Rattle.kg_lone.specs.InsertedRows.{router_rows}
@@ -290,3 +293,75 @@ alike bytes drawn times status text code other (inl a) (inl b) =
     ∙ ap (λ (p : Progress). texts (router_rows p.rows) 0 b.messages ++ last_text b.end) (sym rows)
     ∙ ap (λ ms. texts (router_rows a.progress.rows) 0 ms ++ last_text b.end) (sym same.0))
     (one_end a.end b.end a.messages a.rest a.ends ends)
+
+-- ---- statuses
+
+-- a run behind an accepted declaration isn't refused
+pub answered_whole : (status : ℕ) → IsWhole status → (status ≡ 0) ⊎ (status ≡ 7) ⊎ IsCutShort status → (status ≡ 0) ⊎ (status ≡ 7)
+answered_whole status (inl is) known = inl is
+answered_whole status (inr (inr is)) known = inr is
+answered_whole status (inr (inl is)) (inl zero) = absurd (omega arith)
+answered_whole status (inr (inl is)) (inr (inl seven)) = absurd (omega arith)
+answered_whole status (inr (inl is)) (inr (inr (inl four))) = absurd (omega arith)
+answered_whole status (inr (inl is)) (inr (inr (inr (inl five)))) = absurd (omega arith)
+answered_whole status (inr (inl is)) (inr (inr (inr (inr six)))) = absurd (omega arith)
+
+pub answered_status : (status : ℕ) → (status ≡ 0) ⊎ (status ≡ 7) ⊎ IsCutShort status → IsWhole status ⊎ IsCutShort status
+answered_status status (inl zero) = inl (inl zero)
+answered_status status (inr (inl seven)) = inl (inr (inr seven))
+answered_status status (inr (inr short)) = inr short
+
+pub first_status : (status : ℕ) → IsFirstStatus status → IsWhole status ⊎ IsCutShort status
+first_status status (inl three) = inl (inr (inl three))
+first_status status (inr short) = inr short
+
+-- a first line that gave no commands is refused, or was cut short
+is_three : (status : ℕ) → IsFirstStatus status → IsWhole status → status ≡ 3
+is_three status first (inr (inl three)) = three
+is_three status (inl three) (inl zero) = three
+is_three status (inr (inl four)) (inl zero) = absurd (omega arith)
+is_three status (inr (inr (inl five))) (inl zero) = absurd (omega arith)
+is_three status (inr (inr (inr six))) (inl zero) = absurd (omega arith)
+is_three status (inl three) (inr (inr seven)) = three
+is_three status (inr (inl four)) (inr (inr seven)) = absurd (omega arith)
+is_three status (inr (inr (inl five))) (inr (inr seven)) = absurd (omega arith)
+is_three status (inr (inr (inr six))) (inr (inr seven)) = absurd (omega arith)
+
+not_three : (status : ℕ) → IsCutShort status → status ≢ 3
+not_three status (inl four) = λ three. absurd (omega arith)
+not_three status (inr (inl five)) = λ three. absurd (omega arith)
+not_three status (inr (inr six)) = λ three. absurd (omega arith)
+
+pub refused_whole : (Drew : List (List ℕ) → Type 0) (Read : List ℕ → Type 0) (bytes : List ℕ) (left before after : Option (List ℕ))
+    (drawn : List (List ℕ)) (time status : ℕ) → Drew drawn → Read (time ∷ []) → IsFirstStatus status → IsWhole status
+    → AnswersFirst time most_rows bytes left before after (Err status) drawn → WritesText Drew Read bytes before after status
+refused_whole Drew Read bytes left before after drawn time status drew read first whole says =
+    let three = is_three status first whole in
+    subst (WritesText Drew Read bytes before after) (sym three) (refusal_written Drew Read bytes before after drawn time drew read (says.0 three))
+
+pub refused_front : (Drew : List (List ℕ) → Type 0) (Read : List ℕ → Type 0) (bytes : List ℕ) (left before after : Option (List ℕ))
+    (drawn : List (List ℕ)) (time status : ℕ) → Drew drawn → Read (time ∷ []) → IsCutShort status
+    → AnswersFirst time most_rows bytes left before after (Err status) drawn → WritesFront Drew Read bytes before after
+refused_front Drew Read bytes left before after drawn time status drew read short says =
+    first_front Drew Read bytes before after drawn time drew read (says.1 (not_three status short))
+
+-- behind the commands
+pub answered_text : (Drew : List (List ℕ) → Type 0) (Read Later : List ℕ → Type 0) (bytes : List ℕ) (left before middle written : Option (List ℕ))
+    (now : ℕ) (drawn : List (List ℕ)) (commands : List Command) (status : ℕ)
+    → GivesCommands now most_rows bytes left drawn commands → middle ≡ before → Drew drawn
+    → ((times : List ℕ) → Later times → Read (now ∷ times))
+    → EndsWith (router_rows (rows_after commands)) Later left middle written status → WritesText Drew Read bytes before written status
+answered_text Drew Read Later bytes left before middle written now drawn commands status gives same drew on ended =
+    replies_written Drew Read Later bytes left before written now drawn (progress_after commands (length drawn)) status
+    gives.declared refl gives.after drew on
+    (subst (λ w. EndsWith (router_rows (rows_after commands)) Later left w written status) same ended)
+
+pub answered_front : (Drew : List (List ℕ) → Type 0) (Read Later : List ℕ → Type 0) (bytes : List ℕ) (left before middle written : Option (List ℕ))
+    (now : ℕ) (drawn : List (List ℕ)) (commands : List Command)
+    → GivesCommands now most_rows bytes left drawn commands → middle ≡ before → Drew drawn
+    → ((times : List ℕ) → Later times → Read (now ∷ times))
+    → AnswersFront (router_rows (rows_after commands)) Later left middle written → WritesFront Drew Read bytes before written
+answered_front Drew Read Later bytes left before middle written now drawn commands gives same drew on front =
+    replies_front Drew Read Later bytes left before written now drawn (progress_after commands (length drawn))
+    gives.declared gives.after drew on
+    (subst (λ w. AnswersFront (router_rows (rows_after commands)) Later left w written) same front)

@@ -1,7 +1,8 @@
 -- The rows after commands that insert are those that they insert.
-use Rattle.std.proofs.Common.{◌≡◌, ℕ, ◌==◌, ◌+◌, Bool, true, false, not, ◌&&◌, ◌||◌, List, [], ◌∷◌, ◌++◌, length, refl, sym, ap, ◌∙◌, All, append_assoc, append-nil, length-append, arith}
+use Rattle.std.proofs.Common.{◌≡◌, ℕ, suc, ◌==◌, Bool, true, false, not, ◌&&◌, ◌||◌, List, [], ◌∷◌, ◌++◌, length, refl, sym, ap, ◌∙◌, All, arith}
 use Rattle.std.specs.List.{filter_map}
-use Rattle.std.proofs.lemmas.List.{append-nil, append_assoc, length-append}
+use Rattle.std.proofs.lemmas.Bool.Decides.{nat_tests}
+use Rattle.std.proofs.lemmas.List.{append-nil, append_assoc}
 use Rattle.std.proofs.lemmas.List.Elements.{All-head, All-tail, filter_map-append}
 use Rattle.kg_entities.specs.RowChanges.{inserted}
 use Rattle.kg_entities.specs.RowLists.{RowLists, no_rows}
@@ -28,8 +29,8 @@ some_plugins : {X : Type 0} (xs : List X) (x : X) → (length (xs ++ x ∷ []) =
 some_plugins [] x = refl
 some_plugins (y ∷ xs) x = none (length (xs ++ x ∷ []))
   where
-    none : (n : ℕ) → (n + 1 == 0) ≡ false
-    none n = grind (arith)
+    none : (n : ℕ) → (suc n == 0) ≡ false
+    none n = grind (arith, nat_tests)
 
 and_true : (b : Bool) → b ≡ (b && true)
 and_true true = refl

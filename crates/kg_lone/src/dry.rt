@@ -158,6 +158,35 @@ fn answer_all<S: Source, K: Sink, T: Clock>(
     Ok(End::Spent)
 }
 
+// Answers the requests of the source, and gives the status.
+fn answered_by<S: Source, K: Sink, T: Clock>(
+    alloc: Global,
+    gateway: &mut Gateway,
+    source: &mut S,
+    sink: &mut K,
+    clock: &mut T,
+) -> u8
+    ensures statuses { (result ≡ 0) ⊎ (result ≡ 7) ⊎ IsCutShort result }
+    ensures whole { (result ≡ 0) ⊎ (result ≡ 7)
+        → EndsWith gateway.old (T.reads clock.old clock.new) (S.left source.old) (K.written sink.old) (K.written sink.new) result }
+    ensures front { IsCutShort result
+        → AnswersFront gateway.old (T.reads clock.old clock.new) (S.left source.old) (K.written sink.old) (K.written sink.new) }
+    ensures kept { result ≡ 0 → (S.faults source.new ≡ S.faults source.old) × (K.faults sink.new ≡ K.faults sink.old) }
+    ensures read { result ≡ 4 → Rose (S.faults source.old) (S.faults source.new) }
+    ensures write { result ≡ 5 → Rose (K.faults sink.old) (K.faults sink.new) }
+{
+    match answer_all(alloc, gateway, source, sink, clock) {
+        Ok(End::Closed) => DONE,
+        Ok(End::Asked) => DONE,
+        Ok(End::Spent) => DONE,
+        Ok(End::Bad) => BROKEN,
+        Ok(End::Cut) => BROKEN,
+        Err(Stop::ReadFault) => READ_FAULT,
+        Err(Stop::WriteFault) => WRITE_FAULT,
+        Err(Stop::NoMemory) => OUT_OF_MEMORY,
+    }
+}
+
 // Answers the requests behind a declaration by its rows, and gives the status.
 fn answered<S: Source, K: Sink, T: Clock>(
     alloc: Global,
@@ -176,19 +205,9 @@ fn answered<S: Source, K: Sink, T: Clock>(
     ensures read { result ≡ 4 → Rose (S.faults source.old) (S.faults source.new) }
     ensures write { result ≡ 5 → Rose (K.faults sink.old) (K.faults sink.new) }
 {
-    let mut gateway = match gateway_of(alloc, commands) {
-        Ok(gateway) => gateway,
-        Err(NoMemory) => return OUT_OF_MEMORY,
-    };
-    match answer_all(alloc, &mut gateway, source, sink, clock) {
-        Ok(End::Closed) => DONE,
-        Ok(End::Asked) => DONE,
-        Ok(End::Spent) => DONE,
-        Ok(End::Bad) => BROKEN,
-        Ok(End::Cut) => BROKEN,
-        Err(Stop::ReadFault) => READ_FAULT,
-        Err(Stop::WriteFault) => WRITE_FAULT,
-        Err(Stop::NoMemory) => OUT_OF_MEMORY,
+    match gateway_of(alloc, commands) {
+        Ok(mut gateway) => answered_by(alloc, &mut gateway, source, sink, clock),
+        Err(NoMemory) => OUT_OF_MEMORY,
     }
 }
 

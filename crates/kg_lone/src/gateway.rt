@@ -23,8 +23,10 @@ pub struct Gateway {
 }
 
 impl Model for Gateway {
+    ghost use Rattle.std.specs.Prelude.{◌≡◌};
     ghost use Rattle.kg_router.specs.RouterRows.{RouterRows};
     ghost use Rattle.kg_lone.specs.Echo.{IsEcho};
+    ghost use Rattle.kg_lone.specs.Plain.{no_route};
 
     ghost Value = { RouterRows };
 

@@ -1,0 +1,42 @@
+use Rattle.std.proofs.Common.{◌∷◌, [], ap}
+use Rattle.kg_lone.proofs.DryLemmas.{answered_front, answered_status, answered_text, answered_whole, first_status, refused_front, refused_whole}
+use Rattle.kg_lone.proofs.dry.dry.Goals as goal
+
+-- the status of each
+pub returns-in-Ok-clause-statuses : goal.returns-in-Ok-clause-statuses
+returns-in-Ok-clause-statuses g c = answered_status _ c.answered.ensures.statuses
+
+pub returns-in-Err-clause-statuses : goal.returns-in-Err-clause-statuses
+returns-in-Err-clause-statuses g c = first_status _ c.in-Err.ensures.statuses
+
+-- the replies are written
+pub returns-in-Ok-clause-whole : goal.returns-in-Ok-clause-whole
+returns-in-Ok-clause-whole g c whole bytes seen =
+    let drew = c.first_commands.ensures.line in
+    answered_text _ _ _ bytes _ _ _ _ c.now-now.result drew.drawn c.in-Ok.commands _
+    (rw c.in-Ok.is at (drew.says bytes seen)) (ap g.K.Sink.written c.in-Ok.ensures.unwritten) drew.moved
+    (λ times read. g.met.T.Clock.reads_on _ _ _ (c.now-now.result ∷ []) times c.now-now.ensures read)
+    (c.answered.ensures.whole (answered_whole _ whole c.answered.ensures.statuses))
+
+-- or a front of them
+pub returns-in-Ok-clause-front : goal.returns-in-Ok-clause-front
+returns-in-Ok-clause-front g c short bytes seen =
+    let drew = c.first_commands.ensures.line in
+    answered_front _ _ _ bytes _ _ _ _ c.now-now.result drew.drawn c.in-Ok.commands
+    (rw c.in-Ok.is at (drew.says bytes seen)) (ap g.K.Sink.written c.in-Ok.ensures.unwritten) drew.moved
+    (λ times read. g.met.T.Clock.reads_on _ _ _ (c.now-now.result ∷ []) times c.now-now.ensures read)
+    (c.answered.ensures.front short)
+
+-- the refusal is written
+pub returns-in-Err-clause-whole : goal.returns-in-Err-clause-whole
+returns-in-Err-clause-whole g c whole bytes seen =
+    let drew = c.first_commands.ensures.line in
+    refused_whole _ _ bytes _ _ _ drew.drawn c.now-now.result c.in-Err.status drew.moved c.now-now.ensures c.in-Err.ensures.statuses whole
+    (rw c.in-Err.is at (drew.says bytes seen))
+
+-- or a front of it
+pub returns-in-Err-clause-front : goal.returns-in-Err-clause-front
+returns-in-Err-clause-front g c short bytes seen =
+    let drew = c.first_commands.ensures.line in
+    refused_front _ _ bytes _ _ _ drew.drawn c.now-now.result c.in-Err.status drew.moved c.now-now.ensures short
+    (rw c.in-Err.is at (drew.says bytes seen))
