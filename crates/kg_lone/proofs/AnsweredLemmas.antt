@@ -12,8 +12,9 @@ use Rattle.kg_wire.specs.Connection.{asks_for_end}
 use Rattle.kg_wire.specs.Messages.{Message, IsRequest, NeverBegins, BeginsNoRequest, print_message, request_of}
 use Rattle.kg_wire.specs.Reading.{ReaderState, Takes, Grows, Refuses, IsCut, IsEnded, IsNothing}
 use Rattle.kg_wire.specs.declared.reader.ReadError.TheVariants.{Bad as BadMessage, Cut as CutMessage}
-use Rattle.kg_lone.specs.Answered.{Answered, AnsweredOn, AnswersAll, AnswersFront, EndsAhead}
-use Rattle.kg_lone.specs.DryText.{GoOn, IsFront, asks, last_text, local_address, most_requests, texts}
+use Rattle.kg_lone.specs.Answered.{Answered, AnsweredOn, AnswersAll, AnswersFront, EndsAhead, EndsWith}
+use Rattle.kg_lone.specs.DryText.{GoOn, asks, last_text, local_address, most_requests, texts}
+use Rattle.kg_lone.specs.Fronts.{IsFront}
 use Rattle.kg_lone.specs.Plain.{bad_request_text, reply_to}
 use Rattle.kg_lone.specs.declared.dry.End.{End}
 use Rattle.kg_lone.specs.declared.dry.End.TheVariants.{Closed, Asked, Spent, Bad, Cut}
@@ -96,6 +97,15 @@ pub front_written : (before now : Option (List ℕ)) (bytes text : List ℕ) →
     → (front : List ℕ) × IsFront front text × (now ≡ with_end before front)
 front_written before now bytes text same (n, within, written) =
     (take n bytes, (drop n bytes, sym same ∙ sym (take-append-drop n bytes)), written)
+
+-- a reply by the same rows
+pub by_rows : (now rows : RouterRows) (last : Bool) (request : Request) (before after : Option (List ℕ)) → now ≡ rows
+    → after ≡ with_end before (reply_to now last request) → after ≡ with_end before (reply_to rows last request)
+by_rows now rows last request before after same is = is ∙ ap (λ r. with_end before (reply_to r last request)) same
+
+pub front_by_rows : (now rows : RouterRows) (last : Bool) (request : Request) (front : List ℕ) → now ≡ rows
+    → IsFront front (reply_to now last request) → IsFront front (reply_to rows last request)
+front_by_rows now rows last request front same is = subst (λ r. IsFront front (reply_to r last request)) same is
 
 -- the request that the reader took is in front of what it holds then
 taken_next : (before now : ReaderState) (left later : Option (List ℕ)) (request : Request) (t : Takes before now left later request)
@@ -305,3 +315,16 @@ cut_ahead ms n at have held now left later on counted few grows cut rest ahead =
         let none : more ≡ [] = ended more refl in
         let same : rest ≡ now ++ more = cc in
         subst IsCut (sym (same ∙ ap (λ t. now ++ t) none ∙ append-nil now)) cut.1
+
+-- ---- the status
+
+-- the answering by these rows ends with its status
+pub ends_with_rows : (now rows : RouterRows) (Read : List ℕ → Type 0) (left before written : Option (List ℕ)) (status : ℕ) → now ≡ rows
+    → EndsWith now Read left before written status → EndsWith rows Read left before written status
+ends_with_rows now rows Read left before written status same ends =
+    subst (λ r. EndsWith r Read left before written status) same ends
+
+-- or it was cut short
+pub front_with_rows : (now rows : RouterRows) (Read : List ℕ → Type 0) (left before written : Option (List ℕ)) → now ≡ rows
+    → AnswersFront now Read left before written → AnswersFront rows Read left before written
+front_with_rows now rows Read left before written same front = subst (λ r. AnswersFront r Read left before written) same front

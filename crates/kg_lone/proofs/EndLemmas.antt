@@ -8,7 +8,7 @@ use Rattle.kg_lone.specs.Answered.{OnlyLastMayAsk}
 use Rattle.kg_lone.specs.DryRun.{IsBroken}
 use Rattle.kg_lone.specs.DryText.{EndsSo, GoOn, LastAsks, asks, most_requests}
 use Rattle.kg_lone.specs.declared.dry.End.{End}
-use Rattle.kg_lone.specs.declared.dry.End.TheVariants.{Closed, Asked, Spent, Bad, Cut, Refused}
+use Rattle.kg_lone.specs.declared.dry.End.TheVariants.{Closed, Asked, Spent, Bad, Cut}
 
 -- nothing is no request
 nothing_begins : BeginsNoRequest []
@@ -47,7 +47,6 @@ only_last Asked ms rest last =
 only_last Spent ms rest ends = all_on ms ends.0
 only_last Bad ms rest ends = all_on ms ends.0
 only_last Cut ms rest ends = all_on ms ends.0
-only_last Refused ms rest ends = absurd ends
 
 -- why there is no further request: none begins, the last one asks for the end, or a thousand were answered
 abbrev pub IsLast : List Message → List ℕ → Type 0
@@ -59,7 +58,6 @@ is_last Asked ms rest last = inr (inl last)
 is_last Spent ms rest (on, all) = inl all
 is_last Bad ms rest (on, few, some, never) = inr (inr (subst BeginsNoRequest (append-nil rest) (never [])))
 is_last Cut ms rest (on, few, cut) = inr (inr cut.part)
-is_last Refused ms rest ends = absurd ends
 
 -- requests that were read, all but perhaps the last of which go on, are at the front of those of a run that ended
 pub front_of_whole : (bytes : List ℕ) (ms ns : List Message) (left rest : List ℕ) → IsReading bytes ms left → IsReading bytes ns rest
@@ -121,9 +119,3 @@ one_end Cut Asked ms rest a b = absurd (not_both ms a.0 b)
 one_end Cut Spent ms rest (on, few, cut) (go, all) = absurd (omega arith)
 one_end Cut Bad ms rest a b = inr (inr refl, inl refl)
 one_end Cut Cut ms rest a b = inl refl
-one_end Refused other ms rest a b = absurd a
-one_end Closed Refused ms rest a b = absurd b
-one_end Asked Refused ms rest a b = absurd b
-one_end Spent Refused ms rest a b = absurd b
-one_end Bad Refused ms rest a b = absurd b
-one_end Cut Refused ms rest a b = absurd b

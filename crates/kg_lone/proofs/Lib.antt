@@ -1,9 +1,6 @@
-mod DeclaredMembers
-mod DeclaredRows
-mod DeclaredTexts
-mod IdLemmas
+mod CommandLemmas
+mod InsertedLemmas
 mod LineLemmas
-mod UpstreamLemmas
 pub mod AnsweredLemmas
 pub mod DryLemmas
 pub mod EndLemmas

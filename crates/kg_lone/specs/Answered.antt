@@ -4,7 +4,8 @@ use Rattle.std.specs.List.{flat_map, AllByRecursion}
 use Rattle.kg_outside.specs.Moves.{with_front, with_end}
 use Rattle.kg_router.specs.RouterRows.{RouterRows}
 use Rattle.kg_wire.specs.Messages.{Message, IsRequest, print_message}
-use Rattle.kg_lone.specs.DryText.{EndsSo, GoOn, IsFront, last_text, most_requests, texts}
+use Rattle.kg_lone.specs.DryText.{EndsSo, GoOn, last_text, most_requests, status_of, texts}
+use Rattle.kg_lone.specs.Fronts.{IsFront}
 use Rattle.kg_lone.specs.declared.dry.End.{End}
 use Rattle.kg_lone.specs.declared.dry.End.TheVariants.{Bad}
 
@@ -39,6 +40,12 @@ pub record AnswersAll (rows : RouterRows) (Read : List ℕ → Type 0) (left_bef
   pub answered : Answered rows Read left_before ahead written_before replied messages
   pub ends : EndsAhead end messages ahead
   pub last : written_now ≡ with_end replied (last_text end)
+
+-- they are answered so that a run ends with this status
+pub record EndsWith (rows : RouterRows) (Read : List ℕ → Type 0) (left_before written_before written_now : Option (List ℕ)) (status : ℕ) : Type 0 where
+  pub end : End
+  pub ending : status ≡ status_of end
+  pub all : AnswersAll rows Read left_before written_before written_now end
 
 -- all of these but perhaps the last go on
 pub record OnlyLastMayAsk (messages : List Message) : Type 0 where

@@ -1,11 +1,11 @@
 pub mod Answered
-pub mod Declaration
-pub mod DeclaredRows
 pub mod DryRun
 pub mod DryText
 pub mod Echo
+pub mod FirstCommands
 pub mod FirstLine
+pub mod Fronts
+pub mod InsertedRows
 pub mod Plain
-pub mod Rows
 pub mod UpstreamFields
 pub mod UpstreamPath

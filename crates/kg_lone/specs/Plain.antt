@@ -15,10 +15,14 @@ use Rattle.kg_lone.specs.Echo.{echo_of}
 use Rattle.kg_lone.specs.UpstreamFields.{upstream_fields}
 use Rattle.kg_lone.specs.UpstreamPath.{host_for, target_for}
 
--- the message that goes upstream for a request, at its choice
+-- the message that goes upstream for a request, at its choice and with this Host
+abbrev pub message_to : Choice → Request → List ℕ → List ℕ
+message_to choice request host =
+    upstream_text request.method (target_for choice request) host request (upstream_fields request.headers)
+
+-- with its own Host
 unfoldable pub upstream_message : Choice → Request → List ℕ
-upstream_message choice request =
-    upstream_text request.method (target_for choice request) (host_for choice request) request (upstream_fields request.headers)
+upstream_message choice request = message_to choice request (host_for choice request)
 
 -- the reply to a request that no route takes
 unfoldable pub no_route : Response

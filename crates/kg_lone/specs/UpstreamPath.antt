@@ -1,7 +1,8 @@
 -- What the upstream is asked for: the service's path joined with the request's, and the Host that it
 -- sees (Kong Admin API, "Route": strip_path, preserve_host; the join is this project's own).
-use Rattle.std.specs.Prelude.{ℕ, ◌-◌, ◌==◌, Bool, List, ◌++◌, take, drop, length, nat_eq, codes, decimal, Option, Some, None, unwrap_or, if◌then◌else◌}
+use Rattle.std.specs.Prelude.{ℕ, ◌-◌, ◌==◌, List, [], ◌++◌, take, drop, length, nat_eq, codes, decimal, Option, Some, None, unwrap_or, if◌then◌else◌}
 use Rattle.std.specs.List.{starts_with, ends_with}
+use Rattle.kg_entities.specs.declared.service.Service.{Service}
 use Rattle.kg_message.specs.declared.request.Request.{Request}
 use Rattle.kg_router.specs.Best.{Choice}
 
@@ -17,30 +18,33 @@ without_first_slash path = if starts_with nat_eq path (codes "/") then drop 1 pa
 abbrev pub slash_joined : List ℕ → List ℕ → List ℕ
 slash_joined base rest = without_last_slash base ++ codes "/" ++ without_first_slash rest
 
--- the service's path, or `/`, joined with what is left of the request's path, if something is left
-abbrev pub joined_path : Option (List ℕ) → List ℕ → ℕ → Bool → List ℕ
-joined_path service_path path cut strip =
-    let base = unwrap_or service_path (codes "/") in
-    let rest = if strip then drop cut path else path in
-    if length rest == 0 then base else slash_joined base rest
+-- the base joined with what is left of the request's path, if something is left
+abbrev pub joined_path : List ℕ → List ℕ → List ℕ
+joined_path base rest = if length rest == 0 then base else slash_joined base rest
 
--- the path, and after a `?` the query that came
-abbrev pub upstream_target : List ℕ → Option (List ℕ) → List ℕ
-upstream_target path None = path
-upstream_target path (Some query) = path ++ codes "?" ++ query
+-- the query behind a `?`, as it came
+abbrev pub query_text : Option (List ℕ) → List ℕ
+query_text None = []
+query_text (Some query) = codes "?" ++ query
+
+-- the service's path, or `/`
+abbrev pub base_of : Service → List ℕ
+base_of service = unwrap_or service.path (codes "/")
+
+-- the request's path, without what the route takes of it where that is to be stripped
+abbrev pub rest_of : Choice → List ℕ → List ℕ
+rest_of choice path = if choice.route.strip_path then drop choice.cut path else path
+
+-- the target for a request, at its choice
+abbrev pub target_for : Choice → Request → List ℕ
+target_for choice request =
+    joined_path (base_of choice.service) (rest_of choice request.path) ++ query_text request.query
 
 -- the host, with its port if that isn't 80
 abbrev pub host_with_port : List ℕ → ℕ → List ℕ
 host_with_port host port = if port == 80 then host else host ++ codes ":" ++ decimal port
 
--- the client's Host where it is to be kept, else the service's host and port
-abbrev pub host_text : Bool → List ℕ → List ℕ → ℕ → List ℕ
-host_text preserve client_host service_host port = if preserve then client_host else host_with_port service_host port
-
--- the target for a request, at its choice
-abbrev pub target_for : Choice → Request → List ℕ
-target_for choice request = upstream_target (joined_path choice.service.path request.path choice.cut choice.route.strip_path) request.query
-
--- the Host for a request, at its choice
+-- the Host for a request, at its choice: the client's where the route keeps it, else the service's
 abbrev pub host_for : Choice → Request → List ℕ
-host_for choice request = host_text choice.route.preserve_host request.host choice.service.host choice.service.port
+host_for choice request =
+    if choice.route.preserve_host then request.host else host_with_port choice.service.host choice.service.port

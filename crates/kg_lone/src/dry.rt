@@ -3,24 +3,25 @@
 #[cfg(test)]
 mod tests;
 
-ghost use Rattle.std.specs.Prelude.{◌≡◌, ◌≢◌, ◌⊎◌, ◌↔◌, ℕ, List as Sequence, [], ◌∷◌, Some, IsTrue, IfOk, IfSome, OnOk, OnErr, IsErrOf};
+ghost use Rattle.std.specs.Prelude.{◌≡◌, ◌⊎◌, ◌↔◌, ℕ, List as Sequence, [], ◌∷◌, Some, IsTrue, IfOk, OnOk, OnErr, IsErrOf};
 ghost use Rattle.kg_outside.specs.Causes.{Rose};
 ghost use Rattle.kg_outside.specs.Moves.{with_end};
-ghost use Rattle.kg_router.specs.RouterRows.{HasDistinctRoutes};
-ghost use Rattle.kg_lone.specs.Answered.{AnswersAll, AnswersFront};
-ghost use Rattle.kg_lone.specs.DryRun.{DifferAtEnd, FindsFirst, IsBroken, IsCutShort, IsDryWords, IsExit, IsWhole, WritesWhole, status_of};
-ghost use Rattle.kg_lone.specs.DryText.{IsDryText, IsFront, WritesFront, WritesText, refusal_line};
+ghost use Rattle.kg_declare.specs.Histories.{AreInsertions};
+ghost use Rattle.kg_rows.specs.Rows.{rows_after};
+ghost use Rattle.kg_lone.specs.Answered.{AnswersAll, AnswersFront, EndsWith};
+ghost use Rattle.kg_lone.specs.DryRun.{IsBroken, IsCutShort, IsDryWords, IsExit, IsSameText, IsWhole};
+ghost use Rattle.kg_lone.specs.DryText.{IsDryText, WritesFront, WritesText, most_rows};
+ghost use Rattle.kg_lone.specs.Fronts.{IsFront};
+ghost use Rattle.kg_lone.specs.InsertedRows.{router_rows};
 ghost use Rattle.kg_lone.specs.Plain.{bad_request_text, reply_to};
-ghost use Rattle.kg_lone.specs.Rows.{Draws};
-ghost use Rattle.kg_lone.specs.declared.dry.End.{End as AnEnd};
 
-use crate::declared::declared_rows;
-use crate::line::{FirstLine, LineError, first_line};
-use crate::plain;
-use crate::rows::Rows;
+use crate::commands::first_commands;
+use crate::gateway::{Gateway, bad_request_text};
+use crate::rows::router_of;
+use crate::status::{BROKEN, DONE, OTHER_WORDS, OUT_OF_MEMORY, READ_FAULT, WRITE_FAULT};
 use kg_message::Request;
 use kg_outside::{Clock, Failed, Ids, Sink, Source};
-use kg_router::RouterGen;
+use kg_rows::Command;
 use kg_text::{List, NoMemory, Text};
 use kg_wire::{ReadError, Reader, asks_for_end, write_whole};
 use std::alloc::Global;
@@ -28,8 +29,8 @@ use std::alloc::Global;
 // How many requests one connection answers.
 const MOST_REQUESTS: u32 = 1000;
 
-// How many bytes the first line may have, its line feed left aside.
-const MOST_LINE: usize = 67_108_864;
+// How many rows of a kind a declaration may have.
+const MOST_ROWS: u32 = 100_000;
 
 // The address that every request of a dry run comes from.
 const LOCAL_ADDRESS: [u8; 4] = [127, 0, 0, 1];
@@ -47,8 +48,6 @@ pub enum End {
     Bad,
     /// The stream ended inside a message.
     Cut,
-    /// The first line declares nothing that is accepted.
-    Refused,
 }
 
 /// Why a run was cut short.
@@ -82,15 +81,15 @@ impl From<Failed> for Stop {
 // Answers one request, with the clock read once before it.
 fn answer_one<K: Sink, T: Clock>(
     alloc: Global,
-    router: &RouterGen,
+    gateway: &mut Gateway,
     request: &Request,
     last: bool,
     sink: &mut K,
     clock: &mut T,
 ) -> Result<(), Stop>
-    requires { HasDistinctRoutes router.now.routes }
-    ensures ok { OnOk result (K.written sink.new ≡ with_end (K.written sink.old) (reply_to router.now last request.now)) }
-    ensures err { OnErr result ((front : Sequence ℕ) × (IsFront front (reply_to router.now last request.now))
+    ensures rows { gateway.new ≡ gateway.old }
+    ensures ok { OnOk result (K.written sink.new ≡ with_end (K.written sink.old) (reply_to gateway.old last request.now)) }
+    ensures err { OnErr result ((front : Sequence ℕ) × (IsFront front (reply_to gateway.old last request.now))
         × (K.written sink.new ≡ with_end (K.written sink.old) front)) }
     ensures clock { (time : ℕ) × T.reads clock.old clock.new (time ∷ []) }
     ensures kept { OnOk result (K.faults sink.new ≡ K.faults sink.old) }
@@ -98,7 +97,7 @@ fn answer_one<K: Sink, T: Clock>(
     ensures write { IsErrOf result Stop.WriteFault → Rose (K.faults sink.old) (K.faults sink.new) }
 {
     clock.now();
-    let text = plain::reply_to(alloc, router, request, last)?;
+    let text = gateway.reply_to(alloc, request, last)?;
     write_whole(sink, text.as_slice())?;
     Ok(())
 }
@@ -112,7 +111,7 @@ fn answer_bad<K: Sink>(alloc: Global, sink: &mut K) -> Result<(), Stop>
     ensures read { IsErrOf result Stop.ReadFault → ⊥ }
     ensures write { IsErrOf result Stop.WriteFault → Rose (K.faults sink.old) (K.faults sink.new) }
 {
-    let text = plain::bad_request_text(alloc)?;
+    let text = bad_request_text(alloc)?;
     write_whole(sink, text.as_slice())?;
     Ok(())
 }
@@ -120,14 +119,13 @@ fn answer_bad<K: Sink>(alloc: Global, sink: &mut K) -> Result<(), Stop>
 // Answers the requests of the source, one after another.
 fn answer_all<S: Source, K: Sink, T: Clock>(
     alloc: Global,
-    router: &RouterGen,
+    gateway: &mut Gateway,
     source: &mut S,
     sink: &mut K,
     clock: &mut T,
 ) -> Result<End, Stop>
-    requires { HasDistinctRoutes router.now.routes }
-    ensures ok { IfOk result (AnswersAll router.now (T.reads clock.old clock.new) (S.left source.old) (K.written sink.old) (K.written sink.new)) }
-    ensures err { OnErr result (AnswersFront router.now (T.reads clock.old clock.new) (S.left source.old) (K.written sink.old) (K.written sink.new)) }
+    ensures ok { IfOk result (AnswersAll gateway.old (T.reads clock.old clock.new) (S.left source.old) (K.written sink.old) (K.written sink.new)) }
+    ensures err { OnErr result (AnswersFront gateway.old (T.reads clock.old clock.new) (S.left source.old) (K.written sink.old) (K.written sink.new)) }
     ensures kept_read { IfOk result (λ end. ¬ (IsBroken end) → S.faults source.new ≡ S.faults source.old) }
     ensures kept_write { OnOk result (K.faults sink.new ≡ K.faults sink.old) }
     ensures read { IsErrOf result Stop.ReadFault → Rose (S.faults source.old) (S.faults source.new) }
@@ -139,7 +137,7 @@ fn answer_all<S: Source, K: Sink, T: Clock>(
         match reader.next_request(alloc, source) {
             Ok(Some(request)) => {
                 let last = count + 1 == MOST_REQUESTS;
-                answer_one(alloc, router, &request, last, sink, clock)?;
+                answer_one(alloc, gateway, &request, last, sink, clock)?;
                 if asks_for_end(&request) {
                     return Ok(End::Asked);
                 }
@@ -160,33 +158,64 @@ fn answer_all<S: Source, K: Sink, T: Clock>(
     Ok(End::Spent)
 }
 
-// The rows that the first line declares: `None` where it is refused.
-fn declared<S: Source, I: Ids>(
+// Answers the requests of the source, and gives the status.
+fn answered_by<S: Source, K: Sink, T: Clock>(
     alloc: Global,
+    gateway: &mut Gateway,
     source: &mut S,
-    ids: &mut I,
-    now: u64,
-) -> Result<Option<Rows>, Stop>
-    ensures rows { Draws I.draws ids.old ids.new result
-        (λ drawn found. (bytes : Sequence ℕ) → S.left source.old ≡ Some bytes → FindsFirst now bytes (S.left source.new) drawn found) }
-    ensures distinct { IfOk result (λ found. IfSome found (λ rows. HasDistinctRoutes rows.routes)) }
-    ensures kept { OnOk result (S.faults source.new ≡ S.faults source.old) }
-    ensures read { IsErrOf result Stop.ReadFault → Rose (S.faults source.old) (S.faults source.new) }
-    ensures write { IsErrOf result Stop.WriteFault → ⊥ }
+    sink: &mut K,
+    clock: &mut T,
+) -> u8
+    ensures statuses { (result ≡ 0) ⊎ (result ≡ 7) ⊎ IsCutShort result }
+    ensures whole { (result ≡ 0) ⊎ (result ≡ 7)
+        → EndsWith gateway.old (T.reads clock.old clock.new) (S.left source.old) (K.written sink.old) (K.written sink.new) result }
+    ensures front { IsCutShort result
+        → AnswersFront gateway.old (T.reads clock.old clock.new) (S.left source.old) (K.written sink.old) (K.written sink.new) }
+    ensures kept { result ≡ 0 → (S.faults source.new ≡ S.faults source.old) × (K.faults sink.new ≡ K.faults sink.old) }
+    ensures read { result ≡ 4 → Rose (S.faults source.old) (S.faults source.new) }
+    ensures write { result ≡ 5 → Rose (K.faults sink.old) (K.faults sink.new) }
 {
-    match first_line(alloc, source, MOST_LINE) {
-        Ok(FirstLine::Whole(line)) => Ok(declared_rows(alloc, line.as_slice(), ids, now)?),
-        Ok(FirstLine::TooLong) => Ok(None),
-        Err(LineError::ReadFault) => Err(Stop::ReadFault),
-        Err(LineError::NoMemory) => Err(Stop::NoMemory),
+    match answer_all(alloc, gateway, source, sink, clock) {
+        Ok(End::Closed) => DONE,
+        Ok(End::Asked) => DONE,
+        Ok(End::Spent) => DONE,
+        Ok(End::Bad) => BROKEN,
+        Ok(End::Cut) => BROKEN,
+        Err(Stop::ReadFault) => READ_FAULT,
+        Err(Stop::WriteFault) => WRITE_FAULT,
+        Err(Stop::NoMemory) => OUT_OF_MEMORY,
     }
 }
 
-#[tactic(auto, unfolding(crate::specs::DryText::refusal_line))]
-fn refusal_line() -> &'static [u8]
-    ensures { result.now ≡ refusal_line }
+// Answers the requests behind a declaration by its rows, and gives the status.
+fn answered<S: Source, K: Sink, T: Clock>(
+    alloc: Global,
+    commands: List<Command>,
+    source: &mut S,
+    sink: &mut K,
+    clock: &mut T,
+) -> u8
+    requires { AreInsertions most_rows commands }
+    ensures statuses { (result ≡ 0) ⊎ (result ≡ 7) ⊎ IsCutShort result }
+    ensures whole { (result ≡ 0) ⊎ (result ≡ 7)
+        → EndsWith (router_rows (rows_after commands)) (T.reads clock.old clock.new) (S.left source.old) (K.written sink.old) (K.written sink.new) result }
+    ensures front { IsCutShort result
+        → AnswersFront (router_rows (rows_after commands)) (T.reads clock.old clock.new) (S.left source.old) (K.written sink.old) (K.written sink.new) }
+    ensures kept { result ≡ 0 → (S.faults source.new ≡ S.faults source.old) × (K.faults sink.new ≡ K.faults sink.old) }
+    ensures read { result ≡ 4 → Rose (S.faults source.old) (S.faults source.new) }
+    ensures write { result ≡ 5 → Rose (K.faults sink.old) (K.faults sink.new) }
 {
-    b"line 1 refused: {\"message\":\"Not built yet\"}\n"
+    match gateway_of(alloc, commands) {
+        Ok(mut gateway) => answered_by(alloc, &mut gateway, source, sink, clock),
+        Err(NoMemory) => OUT_OF_MEMORY,
+    }
+}
+
+fn gateway_of(alloc: Global, commands: List<Command>) -> Result<Gateway, NoMemory>
+    requires { AreInsertions most_rows commands }
+    ensures { IfOk result (λ gateway. gateway ≡ router_rows (rows_after commands)) }
+{
+    Gateway::new(alloc, router_of(alloc, commands)?)
 }
 
 // The run of the one command that there is.
@@ -196,26 +225,21 @@ fn dry<S: Source, K: Sink, T: Clock, I: Ids>(
     sink: &mut K,
     clock: &mut T,
     ids: &mut I,
-) -> Result<End, Stop>
-    ensures ok { IfOk result (λ end. (bytes : Sequence ℕ) → S.left source.old ≡ Some bytes
-        → WritesText (I.draws ids.old ids.new) (T.reads clock.old clock.new) bytes (K.written sink.old) (K.written sink.new) end) }
-    ensures err { OnErr result ((bytes : Sequence ℕ) → S.left source.old ≡ Some bytes
-        → WritesFront (I.draws ids.old ids.new) (T.reads clock.old clock.new) bytes (K.written sink.old) (K.written sink.new)) }
-    ensures kept_read { IfOk result (λ end. ¬ (IsBroken end) → S.faults source.new ≡ S.faults source.old) }
-    ensures kept_write { OnOk result (K.faults sink.new ≡ K.faults sink.old) }
-    ensures read { IsErrOf result Stop.ReadFault → Rose (S.faults source.old) (S.faults source.new) }
-    ensures write { IsErrOf result Stop.WriteFault → Rose (K.faults sink.old) (K.faults sink.new) }
+) -> u8
+    ensures statuses { IsWhole result ⊎ IsCutShort result }
+    ensures whole { IsWhole result → (bytes : Sequence ℕ) → S.left source.old ≡ Some bytes
+        → WritesText (I.draws ids.old ids.new) (T.reads clock.old clock.new) bytes (K.written sink.old) (K.written sink.new) result }
+    ensures front { IsCutShort result → (bytes : Sequence ℕ) → S.left source.old ≡ Some bytes
+        → WritesFront (I.draws ids.old ids.new) (T.reads clock.old clock.new) bytes (K.written sink.old) (K.written sink.new) }
+    ensures kept { (result ≡ 0) ⊎ (result ≡ 3) → (S.faults source.new ≡ S.faults source.old) × (K.faults sink.new ≡ K.faults sink.old) }
+    ensures read { result ≡ 4 → Rose (S.faults source.old) (S.faults source.new) }
+    ensures write { result ≡ 5 → Rose (K.faults sink.old) (K.faults sink.new) }
 {
     let now = clock.now();
-    let rows = match declared(alloc, source, ids, now)? {
-        Some(rows) => rows,
-        None => {
-            write_whole(sink, refusal_line())?;
-            return Ok(End::Refused);
-        }
-    };
-    let router = RouterGen::build(alloc, 0, &rows.services, &rows.routes)?;
-    answer_all(alloc, &router, source, sink, clock)
+    match first_commands(alloc, source, sink, ids, now, MOST_ROWS) {
+        Ok(commands) => answered(alloc, commands, source, sink, clock),
+        Err(status) => status,
+    }
 }
 
 fn is_dry(words: &List<Text>) -> bool
@@ -257,7 +281,7 @@ pub fn run<S: Source, K: Sink, T: Clock, I: Ids>(
 
     // The whole text, or a front of it where the run was cut short.
     ensures whole { IsWhole result → (bytes : Sequence ℕ) → S.left source.old ≡ Some bytes
-        → WritesWhole (I.draws ids.old ids.new) (T.reads clock.old clock.new) bytes (K.written sink.old) (K.written sink.new) result }
+        → WritesText (I.draws ids.old ids.new) (T.reads clock.old clock.new) bytes (K.written sink.old) (K.written sink.new) result }
     ensures front { IsCutShort result → (bytes : Sequence ℕ) → S.left source.old ≡ Some bytes
         → WritesFront (I.draws ids.old ids.new) (T.reads clock.old clock.new) bytes (K.written sink.old) (K.written sink.new) }
 
@@ -266,32 +290,21 @@ pub fn run<S: Source, K: Sink, T: Clock, I: Ids>(
     ensures read { result ≡ 4 → Rose (S.faults source.old) (S.faults source.new) }
     ensures write { result ≡ 5 → Rose (K.faults sink.old) (K.faults sink.new) }
 {
-    if !is_dry(words) {
-        return 2;
-    }
-    match dry(alloc, source, sink, clock, ids) {
-        Ok(End::Closed) => 0,
-        Ok(End::Asked) => 0,
-        Ok(End::Spent) => 0,
-        Ok(End::Refused) => 3,
-        Ok(End::Bad) => 7,
-        Ok(End::Cut) => 7,
-        Err(Stop::ReadFault) => 4,
-        Err(Stop::WriteFault) => 5,
-        Err(Stop::NoMemory) => 6,
+    if is_dry(words) {
+        dry(alloc, source, sink, clock, ids)
+    } else {
+        OTHER_WORDS
     }
 }
 
 /// What a run writes is determined by the bytes, the ids that were drawn and the times that were read, and so
-/// is its end, but for one choice. A message that the source ended in may be such that it never becomes a
+/// is its status, but for one choice. A message that the source ended in may be such that it never becomes a
 /// request, and yet its head, as far as it goes, may go on to a whole head: as one with two Host fields and no
-/// empty line yet. There both ends are allowed, that the message was refused and that it was cut. The status is
-/// 7 at both, and the texts are the same but for the 400 of the refused message.
+/// empty line yet. There both texts are allowed, the one with the 400 of a refused message at its end and the
+/// one without it; the status is 7 for both.
 pub fn one_text()
-    ensures end { (bytes : Sequence ℕ) (drawn : Sequence (Sequence ℕ)) (times : Sequence ℕ) (end : AnEnd) (text : Sequence ℕ) (other : AnEnd) (more : Sequence ℕ)
-        → IsDryText bytes drawn times end text → IsDryText bytes drawn times other more → (end ≡ other) ⊎ (IsBroken end × IsBroken other) }
-    ensures status { (bytes : Sequence ℕ) (drawn : Sequence (Sequence ℕ)) (times : Sequence ℕ) (end : AnEnd) (text : Sequence ℕ) (other : AnEnd) (more : Sequence ℕ)
-        → IsDryText bytes drawn times end text → IsDryText bytes drawn times other more → status_of end ≡ status_of other }
-    ensures text { (bytes : Sequence ℕ) (drawn : Sequence (Sequence ℕ)) (times : Sequence ℕ) (end : AnEnd) (text : Sequence ℕ) (other : AnEnd) (more : Sequence ℕ)
-        → IsDryText bytes drawn times end text → IsDryText bytes drawn times other more → DifferAtEnd end text other more }
+    ensures status { (bytes : Sequence ℕ) (drawn : Sequence (Sequence ℕ)) (times : Sequence ℕ) (status : ℕ) (text : Sequence ℕ) (code : ℕ) (other : Sequence ℕ)
+        → IsDryText bytes drawn times status text → IsDryText bytes drawn times code other → status ≡ code }
+    ensures text { (bytes : Sequence ℕ) (drawn : Sequence (Sequence ℕ)) (times : Sequence ℕ) (status : ℕ) (text : Sequence ℕ) (code : ℕ) (other : Sequence ℕ)
+        → IsDryText bytes drawn times status text → IsDryText bytes drawn times code other → IsSameText status text other }
 {}

@@ -2,14 +2,16 @@
 //! over an echo as upstream.
 #![tactic(auto)]
 
-mod declaration;
-mod declared;
+mod commands;
 mod dry;
 mod echo;
+mod gateway;
 mod line;
-mod plain;
 mod rows;
+mod status;
+mod upstream;
 mod upstream_fields;
 mod upstream_path;
 
+pub use crate::commands::first_commands;
 pub use crate::dry::{one_text, run};

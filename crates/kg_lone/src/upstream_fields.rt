@@ -1,18 +1,17 @@
 //! The client's fields that the gateway passes on.
 
-ghost use Rattle.std.specs.Prelude.{◌≡◌, IfOk, map};
-ghost use Rattle.kg_text.specs.ListChanges.{without};
-ghost use Rattle.kg_message.specs.HopByHop.{is_among};
-ghost use Rattle.kg_lone.specs.UpstreamFields.{gateway_names, upstream_fields};
+ghost use Rattle.std.specs.Prelude.{◌≡◌, IfOk};
+ghost use Rattle.kg_lone.specs.UpstreamFields.{goes_upstream, is_stated, upstream_fields};
 
-use kg_message::{Headers, end_to_end};
-use kg_text::NoMemory;
+use kg_message::{Header, Headers, is_hop_by_hop};
+use kg_text::{NoMemory, TryClone};
 use std::alloc::Global;
 
-// `expect`, which the gateway answers itself, and what it states anew of the request, the client and the
+// `expect`, which the gateway answers itself, and what it states anew of the message, the client and the
 // consumer.
-const GATEWAY_NAMES: [&str; 12] = [
+const STATED_NAMES: [&str; 13] = [
     "host",
+    "content-length",
     "expect",
     "x-forwarded-for",
     "x-forwarded-proto",
@@ -30,18 +29,30 @@ const GATEWAY_NAMES: [&str; 12] = [
 pub fn upstream_fields(alloc: Global, headers: &Headers) -> Result<Headers, NoMemory>
     ensures { IfOk result (λ fields. fields ≡ upstream_fields headers.now) }
 {
-    let mut fields = end_to_end(alloc, headers)?;
-    remove_each(&mut fields, &GATEWAY_NAMES);
+    let mut fields = Headers::new(alloc);
+    for field in headers.as_slice() {
+        if goes_upstream(headers, field) {
+            fields.add(
+                alloc,
+                field.name.copy(alloc)?,
+                field.value.try_clone(alloc)?,
+            )?;
+        }
+    }
     Ok(fields)
 }
 
-// Drops the fields that have one of these names.
-fn remove_each(headers: &mut Headers, names: &[&str])
-    ensures { headers.new ≡ without (λ field. is_among (map (λ name. name.now) names.now) field) headers.old }
+fn goes_upstream(headers: &Headers, field: &Header) -> bool
+    ensures { result ≡ goes_upstream headers.now field.now }
 {
-    for name in names {
-        headers.remove(name.as_bytes());
-    }
+    !is_stated(field) && !is_hop_by_hop(headers, field)
+}
+
+// States the gateway this field itself, or answers it?
+fn is_stated(field: &Header) -> bool
+    ensures { result ≡ is_stated field.now }
+{
+    STATED_NAMES.iter().any(|name| field.name.same(name.as_bytes()))
 }
 
 #[cfg(test)]

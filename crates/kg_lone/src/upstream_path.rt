@@ -1,18 +1,17 @@
 //! The path that the upstream sees.
 
-#[cfg(test)]
-mod tests;
-
-ghost use Rattle.std.specs.Prelude.{◌≡◌, IfOk, codes, unwrap_or, drop, if◌then◌else◌};
+ghost use Rattle.std.specs.Prelude.{◌≡◌, ◌++◌, [], IfOk, OnOk};
 ghost use Rattle.kg_router.specs.Found.{choice_at};
-ghost use Rattle.kg_lone.specs.UpstreamPath.{host_for, host_with_port, joined_path, slash_joined, target_for, without_first_slash, without_last_slash};
+ghost use Rattle.kg_lone.specs.UpstreamPath.{base_of, joined_path, query_text, rest_of, slash_joined, target_for, without_first_slash, without_last_slash};
 
-use itoa::Buffer;
 use kg_entities::Service;
 use kg_message::Request;
 use kg_router::Choice;
 use kg_text::{Bytes, NoMemory};
 use std::alloc::Global;
+
+// How many bytes a target has besides the service's path, the request's and the query: a `/` and a `?`.
+const MARKS: usize = 2;
 
 /// What the upstream is asked for: the joined path, and after a `?` the query as it came.
 pub fn upstream_target(
@@ -22,31 +21,68 @@ pub fn upstream_target(
 ) -> Result<Bytes, NoMemory>
     ensures { IfOk result (λ target. target ≡ target_for (choice_at choice.now) request.now) }
 {
-    let mut target = joined_path(alloc, choice, request.path.as_bytes())?;
-    if let Some(query) = &request.query {
-        target.push(b'?')?;
-        target.extend_from_slice(query.as_slice())?;
-    }
+    let base = base_path(choice.service);
+    let rest = rest_of(choice, request.path.as_bytes());
+    let mut target = room_for(alloc, base, rest, &request.query)?;
+    put_path(&mut target, base, rest)?;
+    put_query(&mut target, &request.query)?;
     Ok(target)
 }
 
-// The service's path joined with what is left of the request's.
-fn joined_path(alloc: Global, choice: &Choice<'_>, path: &[u8]) -> Result<Bytes, NoMemory>
-    ensures { IfOk result (λ joined. joined ≡
-        joined_path choice.now.service.now.path path.now choice.now.cut choice.now.route.now.strip_path) }
+// An empty text, with memory for a target of these parts.
+fn room_for(
+    alloc: Global,
+    base: &[u8],
+    rest: &[u8],
+    query: &Option<Bytes>,
+) -> Result<Bytes, NoMemory>
+    ensures { IfOk result (λ out. out ≡ []) }
 {
-    let base = base_path(choice.service);
-    let rest = rest_of(choice, path);
+    let query_len = match query {
+        Some(query) => query.len(),
+        None => 0,
+    };
+    let path_len = base.len().saturating_add(rest.len());
+    let room = path_len.saturating_add(query_len).saturating_add(MARKS);
+    Ok(Bytes::from_vec(Vec::with_capacity(alloc, room)?))
+}
+
+// Writes the service's path joined with what is left of the request's.
+fn put_path(out: &mut Bytes, base: &[u8], rest: &[u8]) -> Result<(), NoMemory>
+    ensures { OnOk result (out.new ≡ out.old ++ joined_path base.now rest.now) }
+{
     if rest.is_empty() {
-        Bytes::from_slice(alloc, base)
+        out.extend_from_slice(base)
     } else {
-        slash_joined(alloc, base, rest)
+        put_joined(out, base, rest)
+    }
+}
+
+// Writes the base and the rest with one `/` between them.
+fn put_joined(out: &mut Bytes, base: &[u8], rest: &[u8]) -> Result<(), NoMemory>
+    ensures { OnOk result (out.new ≡ out.old ++ slash_joined base.now rest.now) }
+{
+    out.extend_from_slice(without_last_slash(base))?;
+    out.push(b'/')?;
+    out.extend_from_slice(without_first_slash(rest))
+}
+
+// Writes the query, if there is one.
+fn put_query(out: &mut Bytes, query: &Option<Bytes>) -> Result<(), NoMemory>
+    ensures { OnOk result (out.new ≡ out.old ++ query_text query.now) }
+{
+    match query {
+        Some(query) => {
+            out.push(b'?')?;
+            out.extend_from_slice(query.as_slice())
+        }
+        None => Ok(()),
     }
 }
 
 // The service's path, or `/`.
 fn base_path(service: &Service) -> &[u8]
-    ensures { result.now ≡ unwrap_or service.now.path (codes "/") }
+    ensures { result.now ≡ base_of service.now }
 {
     match &service.path {
         Some(path) => path.as_bytes(),
@@ -56,24 +92,13 @@ fn base_path(service: &Service) -> &[u8]
 
 // What is left of the request's path.
 fn rest_of<'a>(choice: &Choice<'_>, path: &'a [u8]) -> &'a [u8]
-    ensures { let strip = choice.now.route.now.strip_path in
-        result.now ≡ (if strip then drop choice.now.cut path.now else path.now) }
+    ensures { result.now ≡ rest_of (choice_at choice.now) path.now }
 {
     if choice.route.strip_path {
         path.get(choice.cut..).unwrap_or(b"")
     } else {
         path
     }
-}
-
-// The base and the rest with one `/` between them.
-fn slash_joined(alloc: Global, base: &[u8], rest: &[u8]) -> Result<Bytes, NoMemory>
-    ensures { IfOk result (λ path. path ≡ slash_joined base.now rest.now) }
-{
-    let mut path = Bytes::from_slice(alloc, without_last_slash(base))?;
-    path.push(b'/')?;
-    path.extend_from_slice(without_first_slash(rest))?;
-    Ok(path)
 }
 
 fn without_last_slash(path: &[u8]) -> &[u8]
@@ -86,31 +111,4 @@ fn without_first_slash(path: &[u8]) -> &[u8]
     ensures { result.now ≡ without_first_slash path.now }
 {
     path.strip_prefix(b"/").unwrap_or(path)
-}
-
-/// The Host that the upstream sees: the client's where the route keeps it, else the service's.
-pub fn upstream_host(
-    alloc: Global,
-    choice: &Choice<'_>,
-    request: &Request,
-) -> Result<Bytes, NoMemory>
-    ensures { IfOk result (λ host. host ≡ host_for (choice_at choice.now) request.now) }
-{
-    if choice.route.preserve_host {
-        return Bytes::from_slice(alloc, request.host.as_slice());
-    }
-    host_with_port(alloc, choice.service.host.as_bytes(), choice.service.port)
-}
-
-// The host, with its port if that isn't 80.
-fn host_with_port(alloc: Global, host: &[u8], port: u16) -> Result<Bytes, NoMemory>
-    ensures { IfOk result (λ text. text ≡ host_with_port host.now port) }
-{
-    let mut text = Bytes::from_slice(alloc, host)?;
-    if port != 80 {
-        let mut buffer = Buffer::new();
-        text.push(b':')?;
-        text.extend_from_slice(buffer.format(port).as_bytes())?;
-    }
-    Ok(text)
 }

@@ -2,7 +2,7 @@ use Rattle.std.proofs.Common.{◌∙◌, ◌∷◌, [], ap, sym, refl, arith}
 use Rattle.kg_outside.specs.Moves.{with_front}
 use Rattle.kg_outside.proofs.Observed.{with_front-nil}
 use Rattle.kg_wire.specs.Reading.{ReaderState}
-use Rattle.kg_lone.proofs.AnsweredLemmas.{on_err, none_answered, goes_on, ends_after, ends_asked, stopped_at_once, stopped_bad, stopped_taken, bad_ahead}
+use Rattle.kg_lone.proofs.AnsweredLemmas.{on_err, by_rows, front_by_rows, none_answered, goes_on, ends_after, ends_asked, stopped_at_once, stopped_bad, stopped_taken, bad_ahead}
 use Rattle.kg_lone.proofs.dry.answer_all.Goals as goal
 
 -- nothing was written before the reader was made
@@ -15,6 +15,7 @@ loop-count-init g c =
     record {
       goes_on = ap (λ (r : ReaderState). r.error) made;
       address = ap (λ (r : ReaderState). r.address) made;
+      rows = refl;
       few = omega arith;
       answered =
           none_answered _ _ _ _ _ (g.met.T.Clock.reads_none c.args.clock.now)
@@ -32,20 +33,21 @@ returns-in_err-answer_one-in-Ok-Some-clause-err g c =
     c.loop-count.invariant.answered c.loop-count-test.true c.loop-count.invariant.address
     (rw c.in-Ok-Some.field-0-is at c.in-Ok-Some.ensures.ok)
     (λ times read. g.met.T.Clock.reads_on _ _ _ times (c.answer_one.ensures.clock.0 ∷ []) read c.answer_one.ensures.clock.1)
-    front.1 front.2)
+    (front_by_rows _ _ _ _ _ c.loop-count.invariant.rows front.1) front.2)
 
 -- one more reply is written
 pub loop-count-preserved : goal.loop-count-preserved
 loop-count-preserved g c = record {
   goes_on = c.in-Ok-Some.ensures.fresh;
   address = c.next_request.ensures.address ∙ c.loop-count.invariant.address;
+  rows = c.in_ok-answer_one-in-Ok-Some.ensures.rows ∙ c.loop-count.invariant.rows;
   few = omega arith;
   answered =
       goes_on _ _ _ _ _ _ _ _ _ _ _ c.loop-count.count c.in-Ok-Some.request c.answer_one.ensures.clock.0
       c.loop-count.invariant.answered c.loop-count.invariant.address
       (rw c.in-Ok-Some.field-0-is at c.in-Ok-Some.ensures.ok)
       (λ times read. g.met.T.Clock.reads_on _ _ _ times (c.answer_one.ensures.clock.0 ∷ []) read c.answer_one.ensures.clock.1)
-      c.in_ok-answer_one-in-Ok-Some.ensures.ok
+      (by_rows _ _ _ _ _ _ c.loop-count.invariant.rows c.in_ok-answer_one-in-Ok-Some.ensures.ok)
       (sym c.asks_for_end.ensures ∙ c.if-asks_for_end.false);
   kept_read = c.in-Ok-Some.ensures.kept ∙ c.loop-count.invariant.kept_read;
   kept_write = c.in_ok-answer_one-in-Ok-Some.ensures.kept ∙ c.loop-count.invariant.kept_write;
@@ -58,7 +60,7 @@ returns-then-asks_for_end-clause-ok g c =
     c.loop-count.invariant.answered c.loop-count-test.true c.loop-count.invariant.address
     (rw c.in-Ok-Some.field-0-is at c.in-Ok-Some.ensures.ok)
     (λ times read. g.met.T.Clock.reads_on _ _ _ times (c.answer_one.ensures.clock.0 ∷ []) read c.answer_one.ensures.clock.1)
-    c.in_ok-answer_one-in-Ok-Some.ensures.ok
+    (by_rows _ _ _ _ _ _ c.loop-count.invariant.rows c.in_ok-answer_one-in-Ok-Some.ensures.ok)
     (sym c.asks_for_end.ensures ∙ c.if-asks_for_end.true)
 
 -- a part of the text that answers a refused message is written

@@ -1,51 +1,42 @@
-use Rattle.std.proofs.Common.{◌∷◌, [], ap, sym, ◌∙◌}
-use Rattle.kg_outside.specs.Moves.{with_end}
-use Rattle.kg_outside.proofs.Observed.{with_end-nil}
-use Rattle.kg_lone.proofs.AnsweredLemmas.{front_written}
-use Rattle.kg_lone.proofs.DryLemmas.{later_err, later_ok, nothing_written, refusal_front, refusal_written, replies_front, replies_written, seen_err}
+use Rattle.std.proofs.Common.{◌∷◌, [], ap}
+use Rattle.kg_lone.proofs.DryLemmas.{answered_front, answered_status, answered_text, answered_whole, first_status, refused_front, refused_whole}
 use Rattle.kg_lone.proofs.dry.dry.Goals as goal
 
--- the first line could not be read, or its rows could not be made
-pub returns-in_err-rows-clause-err : goal.returns-in_err-rows-clause-err
-returns-in_err-rows-clause-err g c =
-    let drew = c.declared.ensures.rows in
-    seen_err _ _ _ (λ bytes seen. nothing_written _ _ bytes _ drew.drawn (c.now-now.result ∷ []) drew.moved c.now-now.ensures (sym (with_end-nil _)))
+-- the status of each
+pub returns-in-Ok-clause-statuses : goal.returns-in-Ok-clause-statuses
+returns-in-Ok-clause-statuses g c = answered_status _ c.answered.ensures.statuses
 
--- the refusal was cut short
-pub returns-in_err-write_whole-in-None-clause-err : goal.returns-in_err-write_whole-in-None-clause-err
-returns-in_err-write_whole-in-None-clause-err g c =
-    let drew = c.in_ok-rows.ensures.rows in
-    seen_err _ _ _ (λ bytes seen.
-    refusal_front _ _ bytes _ _ drew.drawn c.now-now.result drew.moved c.now-now.ensures
-    (rw c.in-None.is at (drew.makes bytes seen))
-    (front_written _ _ _ _ c.refusal_line.ensures c.in_err-write_whole-in-None.ensures.err))
-
--- the refusal is written
-pub returns-in-None-clause-ok : goal.returns-in-None-clause-ok
-returns-in-None-clause-ok g c bytes seen =
-    let drew = c.in_ok-rows.ensures.rows in
-    refusal_written _ _ bytes _ _ drew.drawn c.now-now.result drew.moved c.now-now.ensures
-    (rw c.in-None.is at (drew.makes bytes seen))
-    (c.in_ok-write_whole-in-None.ensures.ok ∙ ap (with_end _) c.refusal_line.ensures)
-
--- the router could not be built
-pub returns-in_err-router-clause-err : goal.returns-in_err-router-clause-err
-returns-in_err-router-clause-err g c =
-    let drew = c.in_ok-rows.ensures.rows in
-    seen_err _ _ _ (λ bytes seen. nothing_written _ _ bytes _ drew.drawn (c.now-now.result ∷ []) drew.moved c.now-now.ensures (sym (with_end-nil _)))
+pub returns-in-Err-clause-statuses : goal.returns-in-Err-clause-statuses
+returns-in-Err-clause-statuses g c = first_status _ c.in-Err.ensures.statuses
 
 -- the replies are written
-pub returns-clause-ok : goal.returns-clause-ok
-returns-clause-ok g c = later_ok _ _ _ _ c.answer_all.ensures.ok (λ end all bytes seen.
-    let drew = c.in_ok-rows.ensures.rows in
-    let found = rw c.in-Some.is at (drew.makes bytes seen) in
-    replies_written _ _ _ bytes _ _ _ c.now-now.result drew.drawn c.in-Some.rows _ end found.0 found.1 drew.moved c.in_ok-router.ensures
-    (λ times read. g.met.T.Clock.reads_on _ _ _ (c.now-now.result ∷ []) times c.now-now.ensures read) all)
+pub returns-in-Ok-clause-whole : goal.returns-in-Ok-clause-whole
+returns-in-Ok-clause-whole g c whole bytes seen =
+    let drew = c.first_commands.ensures.line in
+    answered_text _ _ _ bytes _ _ _ _ c.now-now.result drew.drawn c.in-Ok.commands _
+    (rw c.in-Ok.is at (drew.says bytes seen)) (ap g.K.Sink.written c.in-Ok.ensures.unwritten) drew.moved
+    (λ times read. g.met.T.Clock.reads_on _ _ _ (c.now-now.result ∷ []) times c.now-now.ensures read)
+    (c.answered.ensures.whole (answered_whole _ whole c.answered.ensures.statuses))
 
--- the replies were cut short
-pub returns-clause-err : goal.returns-clause-err
-returns-clause-err g c = later_err _ _ _ _ c.answer_all.ensures.err (λ front bytes seen.
-    let drew = c.in_ok-rows.ensures.rows in
-    let found = rw c.in-Some.is at (drew.makes bytes seen) in
-    replies_front _ _ _ bytes _ _ _ c.now-now.result drew.drawn c.in-Some.rows _ found.0 found.1 drew.moved c.in_ok-router.ensures
-    (λ times read. g.met.T.Clock.reads_on _ _ _ (c.now-now.result ∷ []) times c.now-now.ensures read) front)
+-- or a front of them
+pub returns-in-Ok-clause-front : goal.returns-in-Ok-clause-front
+returns-in-Ok-clause-front g c short bytes seen =
+    let drew = c.first_commands.ensures.line in
+    answered_front _ _ _ bytes _ _ _ _ c.now-now.result drew.drawn c.in-Ok.commands
+    (rw c.in-Ok.is at (drew.says bytes seen)) (ap g.K.Sink.written c.in-Ok.ensures.unwritten) drew.moved
+    (λ times read. g.met.T.Clock.reads_on _ _ _ (c.now-now.result ∷ []) times c.now-now.ensures read)
+    (c.answered.ensures.front short)
+
+-- the refusal is written
+pub returns-in-Err-clause-whole : goal.returns-in-Err-clause-whole
+returns-in-Err-clause-whole g c whole bytes seen =
+    let drew = c.first_commands.ensures.line in
+    refused_whole _ _ bytes _ _ _ drew.drawn c.now-now.result c.in-Err.status drew.moved c.now-now.ensures c.in-Err.ensures.statuses whole
+    (rw c.in-Err.is at (drew.says bytes seen))
+
+-- or a front of it
+pub returns-in-Err-clause-front : goal.returns-in-Err-clause-front
+returns-in-Err-clause-front g c short bytes seen =
+    let drew = c.first_commands.ensures.line in
+    refused_front _ _ bytes _ _ _ drew.drawn c.now-now.result c.in-Err.status drew.moved c.now-now.ensures short
+    (rw c.in-Err.is at (drew.says bytes seen))

@@ -1,0 +1,104 @@
+-- What the first line is answered.
+use Rattle.std.proofs.Common.{◌≡◌, ◌≢◌, ℕ, ◌==◌, ◌<◌, ◌≤◌, ◌⊎◌, inl, inr, Bool, true, false, not, List, [], ◌++◌, Option, Some, Result, Ok, Err, IfOk, IfErr, length, refl, sym, ap, subst, ◌∙◌, arith}
+use Rattle.std.specs.Prelude.{nat_lt}
+use Rattle.std.proofs.lemmas.Bool.{le-ltb, lt-ltb}
+use Rattle.kg_declare.specs.Histories.{AreInsertions}
+use Rattle.kg_declare.specs.Outcome.{Progress, Refused, next, outcome}
+use Rattle.kg_declare.specs.Steps.{Answers, progress_after}
+use Rattle.kg_declare.specs.declared.error.DeclareError.{DeclareError}
+use Rattle.kg_declare.specs.declared.error.DeclareError.TheVariants as error
+use Rattle.kg_message.specs.declared.response.Response.{Response}
+use Rattle.kg_outside.specs.Moves.{with_end}
+use Rattle.kg_outside.proofs.Observed.{with_end-nil}
+use Rattle.kg_rows.specs.Rows.{rows_after}
+use Rattle.kg_rows.specs.declared.command.Command.{Command}
+use Rattle.kg_lone.specs.FirstCommands.{AnswersFirst, AnswersLine, Decides, GivesCommands, IsRefusedLine, RefusesWith, WritesFirstFront, WritesRefusal, first_outcome, first_text, most_line, not_built, read_outcome, refusal_line, run_outcome, without_plugins}
+use Rattle.kg_lone.specs.FirstLine.{GivesLine, line_of}
+use Rattle.kg_lone.specs.Fronts.{IsFront}
+use Rattle.kg_lone.specs.InsertedRows.{has_plugin}
+use Rattle.kg_lone.specs.declared.line.FirstLine.{FirstLine}
+use Rattle.kg_lone.specs.declared.line.FirstLine.TheVariants.{Whole, TooLong}
+use Rattle.kg_lone.proofs.InsertedLemmas.{plugins_are}
+
+-- ---- the line
+
+not_past : (n : ℕ) → n ≤ most_line → nat_lt most_line n ≡ false
+not_past n within = le-ltb most_line n within
+
+-- what becomes of a line that was read is what becomes of the first line
+pub read_is_first : (bytes : List ℕ) (line : FirstLine) (left : Option (List ℕ)) (now limit : ℕ) (draws : List (List ℕ))
+    → GivesLine most_line bytes left line → first_outcome (line_of bytes) now limit draws ≡ read_outcome line now limit draws
+unfolding first_outcome
+read_is_first bytes (Whole line) left now limit draws is =
+    let short : nat_lt most_line (length (line_of bytes)) ≡ false = not_past (length (line_of bytes)) (subst (λ l. length l ≤ most_line) is.is is.within) in
+    rw short (ap (λ l. run_outcome l now limit draws) (sym is.is))
+read_is_first bytes TooLong left now limit draws is = rw (lt-ltb most_line (length (line_of bytes)) is) refl
+
+-- ---- what its declaration is answered
+
+-- a refusal of the declaration is one of the line
+pub declines : (line : List ℕ) (now limit : ℕ) (drawn : List (List ℕ)) (e : DeclareError)
+    → ((more : List (List ℕ)) → Answers (Err e) (outcome line now limit (drawn ++ more)) (length drawn))
+    → AnswersLine (Err e) (run_outcome line now limit) drawn
+unfolding run_outcome
+declines line now limit drawn (error.Refused response) is = λ more. ap (next without_plugins) (is more)
+declines line now limit drawn error.NoMemory is = tt
+
+-- the commands are those of the line, if none inserts a plugin
+pub accepts : (line : List ℕ) (now limit : ℕ) (drawn : List (List ℕ)) (commands : List Command) (result : Result (List Command) DeclareError)
+    → AreInsertions limit commands
+    → ((more : List (List ℕ)) → Answers (Ok commands) (outcome line now limit (drawn ++ more)) (length drawn))
+    → IfOk result (λ same. (same ≡ commands) × (has_plugin commands ≡ false))
+    → IfErr result (λ e. RefusesWith not_built e × (has_plugin commands ≡ true))
+    → AnswersLine result (run_outcome line now limit) drawn
+unfolding run_outcome
+accepts line now limit drawn commands (Ok same) are is ok err = λ more.
+    let none = plugins_are commands are.inserts ∙ ap not ok.1 in
+    ap (next without_plugins) (is more) ∙ rw none (ap (λ cs. Ok (progress_after cs (length drawn))) (sym ok.0))
+accepts line now limit drawn commands (Err (error.Refused response)) are is ok err = λ more.
+    let some = plugins_are commands are.inserts ∙ ap not err.1 in
+    ap (next without_plugins) (is more) ∙ rw some (ap (λ r. Err (record { response = r; drawn = length drawn })) (sym err.0))
+accepts line now limit drawn commands (Err error.NoMemory) are is ok err = tt
+
+-- ---- what the call is answered
+
+-- the commands, and what is left
+pub gives_commands : (bytes : List ℕ) (line : FirstLine) (left : Option (List ℕ)) (now limit : ℕ) (drawn : List (List ℕ)) (commands : List Command)
+    → GivesLine most_line bytes left line → AnswersLine (Ok commands) (read_outcome line now limit) drawn
+    → GivesCommands now limit bytes left drawn commands
+gives_commands bytes (Whole line) left now limit drawn commands first is = record {
+  declared = λ more. read_is_first bytes (Whole line) left now limit (drawn ++ more) first ∙ is more;
+  after = first.after;
+}
+gives_commands bytes TooLong left now limit drawn commands first is =
+    absurd (let no = is [] in cc)
+
+-- the refusal, as far as it was written
+pub tells_refusal : (bytes : List ℕ) (line : FirstLine) (left before after : Option (List ℕ)) (now limit : ℕ) (drawn : List (List ℕ)) (response : Response) (status : ℕ)
+    → GivesLine most_line bytes left line → AnswersLine (Err (error.Refused response)) (read_outcome line now limit) drawn
+    → (status ≡ 3 → after ≡ with_end before (refusal_line response))
+    → (status ≢ 3 → (front : List ℕ) × IsFront front (refusal_line response) × (after ≡ with_end before front))
+    → AnswersFirst now limit bytes left before after (Err status) drawn
+tells_refusal bytes line left before after now limit drawn response status first is whole part = (
+  λ same. record { refused = refused; declared = declared; all = refl; written = whole same },
+  λ other. let front = part other in
+      record { front = front.0; begins = λ more. subst (λ answer. IsFront front.0 (first_text answer)) (sym (declared more)) front.1; written = front.2 },
+)
+  where
+    refused : Refused
+    refused = record { response = response; drawn = length drawn }
+
+    declared : Decides (first_outcome (line_of bytes) now limit) drawn (Err refused)
+    declared more = read_is_first bytes line left now limit (drawn ++ more) first ∙ is more
+
+-- nothing was written
+pub tells_nothing : (bytes : List ℕ) (left before : Option (List ℕ)) (now limit : ℕ) (drawn : List (List ℕ)) (status : ℕ) → status ≢ 3
+    → AnswersFirst now limit bytes left before before (Err status) drawn
+tells_nothing bytes left before now limit drawn status other = (
+  λ same. absurd (other same),
+  λ differs. record {
+    front = [];
+    begins = λ more. (first_text (first_outcome (line_of bytes) now limit (drawn ++ more)), refl);
+    written = sym (with_end-nil before);
+  },
+)

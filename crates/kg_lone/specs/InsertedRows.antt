@@ -1,0 +1,36 @@
+-- The rows that commands insert, by their kinds.
+use Rattle.std.specs.Prelude.{◌≡◌, ℕ, Bool, true, false, List, [], ◌∷◌, Option, Some, None}
+use Rattle.std.specs.List.{filter_map, list_any}
+use Rattle.kg_entities.specs.RowLists.{RowLists}
+use Rattle.kg_entities.specs.declared.entity.Entity.TheVariants as row
+use Rattle.kg_entities.specs.declared.route.Route.{Route}
+use Rattle.kg_entities.specs.declared.service.Service.{Service}
+use Rattle.kg_router.specs.RouterRows.{RouterRows}
+use Rattle.kg_rows.specs.declared.command.Command.{Command}
+use Rattle.kg_rows.specs.declared.command.Command.TheVariants as command
+
+abbrev pub service_in : Command → Option Service
+service_in (command.Insert (row.Service service)) = Some service
+service_in _ = None
+
+abbrev pub route_in : Command → Option Route
+route_in (command.Insert (row.Route route)) = Some route
+route_in _ = None
+
+abbrev pub is_plugin : Command → Bool
+is_plugin (command.Insert (row.Plugin plugin)) = true
+is_plugin _ = false
+
+-- the services in their order
+abbrev pub services_in : List Command → List Service
+services_in commands = filter_map service_in commands
+
+abbrev pub routes_in : List Command → List Route
+routes_in commands = filter_map route_in commands
+
+abbrev pub has_plugin : List Command → Bool
+has_plugin commands = list_any is_plugin commands
+
+-- the rows of a declaration as a router sees them
+abbrev pub router_rows : RowLists → RouterRows
+router_rows rows = record { rev = 0; services = rows.services; routes = rows.routes }
