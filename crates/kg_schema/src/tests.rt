@@ -1,5 +1,6 @@
 //! Bodies and the rules that they break, worked by hand from the tables of fields.
 
+mod bounds;
 mod configs;
 mod plugins;
 mod rows;
@@ -23,7 +24,8 @@ fn told(alloc: Global, kind: Kind, body: &str) -> Result<String, Fail> {
     }
 }
 
-fn spelled(alloc: Global, broken: &List<Broken>) -> Result<String, Fail> {
+// Each path with its word.
+pub(crate) fn spelled(alloc: Global, broken: &List<Broken>) -> Result<String, Fail> {
     let mut text = String::new(alloc);
     for fault in broken.as_slice() {
         if !text.is_empty() {
