@@ -5,11 +5,17 @@ use crate::reference::{Mention, Reference};
 use crate::settings::{https_at, integer_at, reference_at, text_at, texts_at, url_at, whole_at};
 use crate::word::Word;
 use serde_json::Value;
+use std::alloc::Global;
 use std::test::Fail;
+
+// The value of a text of JSON.
+fn value(alloc: Global, text: &str) -> Result<Value, Fail> {
+    Ok(Value::from_str(alloc, text)?)
+}
 
 #[test]
 fn hosts_are_kept_in_lower_case(rt: HostRuntime) -> Result<(), Fail> {
-    let body = Value::from_str(rt.alloc(), r#"{"hosts":["Shop.Example","*.A"]}"#)?;
+    let body = value(rt.alloc(), r#"{"hosts":["Shop.Example","*.A"]}"#)?;
     let hosts = texts_at(rt.alloc(), Word::RouteHost, "hosts", &body)?;
     assert_eq!(rt; hosts.len(), 2);
     assert_eq!(rt;
@@ -29,7 +35,7 @@ fn an_id_for_anonymous_requests_is_kept_printed(rt: HostRuntime) -> Result<(), F
         ),
         (r#"{"anonymous":"Guest"}"#, "Guest"),
     ] {
-        let body = Value::from_str(rt.alloc(), body)?;
+        let body = value(rt.alloc(), body)?;
         let kept = text_at(rt.alloc(), Word::Anonymous, "anonymous", &body)?.ok_or("anonymous")?;
         assert_eq!(rt; kept.as_str(), wanted);
     }
@@ -38,7 +44,7 @@ fn an_id_for_anonymous_requests_is_kept_printed(rt: HostRuntime) -> Result<(), F
 
 #[test]
 fn headers_stand_in_byte_order_of_their_names(rt: HostRuntime) -> Result<(), Fail> {
-    let body = Value::from_str(
+    let body = value(
         rt.alloc(),
         r#"{"headers":{"X-B":["1","2"],"a":["3"],"C":[],"D":null}}"#,
     )?;
@@ -54,7 +60,7 @@ fn headers_stand_in_byte_order_of_their_names(rt: HostRuntime) -> Result<(), Fai
 
 #[test]
 fn a_url_sets_host_port_and_path(rt: HostRuntime) -> Result<(), Fail> {
-    let body = Value::from_str(rt.alloc(), r#"{"url":"http://up.example:81/v2"}"#)?;
+    let body = value(rt.alloc(), r#"{"url":"http://up.example:81/v2"}"#)?;
     let url = url_at(rt.alloc(), &body)?.ok_or("url")?;
     assert_eq!(rt; url.host.as_str(), "up.example");
     assert_eq!(rt; url.port, 81);
@@ -64,7 +70,7 @@ fn a_url_sets_host_port_and_path(rt: HostRuntime) -> Result<(), Fail> {
 
 #[test]
 fn a_url_without_port_and_path_sets_80_and_none(rt: HostRuntime) -> Result<(), Fail> {
-    let body = Value::from_str(rt.alloc(), r#"{"url":"http://h"}"#)?;
+    let body = value(rt.alloc(), r#"{"url":"http://h"}"#)?;
     let url = url_at(rt.alloc(), &body)?.ok_or("url")?;
     assert_eq!(rt; url.port, 80);
     assert!(rt; url.path.is_none());
@@ -73,7 +79,7 @@ fn a_url_without_port_and_path_sets_80_and_none(rt: HostRuntime) -> Result<(), F
 
 #[test]
 fn numbers_outside_their_range_set_nothing(rt: HostRuntime) -> Result<(), Fail> {
-    let body = Value::from_str(rt.alloc(), r#"{"low":0,"port":81,"below":-5}"#)?;
+    let body = value(rt.alloc(), r#"{"low":0,"port":81,"below":-5}"#)?;
     assert_eq!(rt; whole_at(rt.alloc(), 1, 65_535, "low", &body)?, None);
     assert_eq!(rt; whole_at(rt.alloc(), 1, 65_535, "port", &body)?, Some(81));
     assert_eq!(rt; integer_at(rt.alloc(), -5, 5, "below", &body)?, Some(-5));
@@ -83,7 +89,7 @@ fn numbers_outside_their_range_set_nothing(rt: HostRuntime) -> Result<(), Fail> 
 
 #[test]
 fn a_reference_is_an_id_or_a_name(rt: HostRuntime) -> Result<(), Fail> {
-    let body = Value::from_str(
+    let body = value(
         rt.alloc(),
         r#"{"a":"00000000-0000-4000-8000-000000000003","b":{"name":"s"},"c":5}"#,
     )?;
@@ -103,7 +109,7 @@ fn protocols_tell_whether_https_is_named(rt: HostRuntime) -> Result<(), Fail> {
         (r#"{"protocols":[]}"#, None),
         (r#"{"protocols":["https"]}"#, None),
     ] {
-        let body = Value::from_str(rt.alloc(), body)?;
+        let body = value(rt.alloc(), body)?;
         assert_eq!(rt; https_at(rt.alloc(), &body)?, wanted);
     }
     Ok(())
