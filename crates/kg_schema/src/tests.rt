@@ -24,6 +24,18 @@ fn told(alloc: Global, kind: Kind, body: &str) -> Result<String, Fail> {
     }
 }
 
+// The first line of which another thing is told than should be. A line has a body and what is told
+// of it, with a bar between them.
+fn mistold<'t>(alloc: Global, kind: Kind, table: &'t str) -> Result<&'t str, Fail> {
+    for line in table.lines() {
+        let (body, wanted) = line.split_once('|').ok_or("a line without a bar")?;
+        if told(alloc, kind, body)?.as_str() != wanted {
+            return Ok(line);
+        }
+    }
+    Ok("")
+}
+
 // Each path with its word.
 pub(crate) fn spelled(alloc: Global, broken: &List<Broken>) -> Result<String, Fail> {
     let mut text = String::new(alloc);

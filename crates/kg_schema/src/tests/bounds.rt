@@ -21,66 +21,76 @@ fn of_many(
     Ok(text)
 }
 
+// What is told of a service whose name has so many bytes.
+fn told_of_name(alloc: Global, bytes: usize) -> Result<String, Fail> {
+    let body = of_many(alloc, r#"{"name":""#, "a", bytes, r#""}"#)?;
+    told(alloc, Kind::Service, body.as_str())
+}
+
 #[test]
-fn texts_have_a_length_at_most(rt: HostRuntime) -> Result<(), Fail> {
-    let alloc = rt.alloc();
-    let body = r#"{"name":"request-termination","config":{"body":""#;
-    for (kind, front, count, back, wanted) in [
-        (Kind::Service, r#"{"name":""#, 255, r#""}"#, ""),
-        (
-            Kind::Service,
-            r#"{"name":""#,
-            256,
-            r#""}"#,
-            "name: out of range",
-        ),
-        (
-            Kind::Consumer,
-            r#"{"custom_id":""#,
-            256,
-            r#"\u0000"}"#,
-            "custom_id: out of range",
-        ),
-        (Kind::Route, r#"{"paths":["/"#, 255, r#""]}"#, ""),
-        (
-            Kind::Route,
-            r#"{"paths":["/"#,
-            256,
-            r#""]}"#,
-            "paths: out of range",
-        ),
-        (Kind::Plugin, body, 65_536, r#""}}"#, ""),
-        (
-            Kind::Plugin,
-            body,
-            65_537,
-            r#""}}"#,
-            "config.body: out of range",
-        ),
-    ] {
-        let body = of_many(alloc, front, "a", count, back)?;
-        assert_eq!(rt; told(alloc, kind, body.as_str())?.as_str(), wanted);
-    }
+fn a_name_has_255_bytes_at_most(rt: HostRuntime) -> Result<(), Fail> {
+    assert_eq!(rt; told_of_name(rt.alloc(), 255)?.as_str(), "");
+    assert_eq!(rt;
+        told_of_name(rt.alloc(), 256)?.as_str(),
+        "name: out of range"
+    );
     Ok(())
 }
 
-// A list that is too long has an empty text, a text of no form and the same text twice, too.
+// What is told of a route whose path has so many bytes behind its slash.
+fn told_of_path(alloc: Global, bytes: usize) -> Result<String, Fail> {
+    let body = of_many(alloc, r#"{"paths":["/"#, "a", bytes, r#""]}"#)?;
+    told(alloc, Kind::Route, body.as_str())
+}
+
 #[test]
-fn lists_have_64_members_at_most(rt: HostRuntime) -> Result<(), Fail> {
-    let alloc = rt.alloc();
-    for (count, back, wanted) in [
-        (63, r#""GET"]}"#, "methods: repeated"),
-        (63, r#""get"]}"#, "methods: syntax"),
-        (64, r#""get"]}"#, "methods: out of range"),
-        (64, r#"""]}"#, "methods: empty"),
-        (64, r#"7]}"#, "methods: type"),
-    ] {
-        let body = of_many(alloc, r#"{"methods":["#, r#""GET","#, count, back)?;
-        assert_eq!(rt;
-            told(alloc, Kind::Route, body.as_str())?.as_str(),
-            wanted,
-            "{back}"
-        );
-    }
+fn a_route_path_has_256_bytes_at_most(rt: HostRuntime) -> Result<(), Fail> {
+    assert_eq!(rt; told_of_path(rt.alloc(), 255)?.as_str(), "");
+    assert_eq!(rt;
+        told_of_path(rt.alloc(), 256)?.as_str(),
+        "paths: out of range"
+    );
+    Ok(())
+}
+
+// What is told of a fixed answer with so many bytes.
+fn told_of_answer(alloc: Global, bytes: usize) -> Result<String, Fail> {
+    let front = r#"{"name":"request-termination","config":{"body":""#;
+    let body = of_many(alloc, front, "a", bytes, r#""}}"#)?;
+    told(alloc, Kind::Plugin, body.as_str())
+}
+
+#[test]
+fn a_fixed_answer_has_65536_bytes_at_most(rt: HostRuntime) -> Result<(), Fail> {
+    assert_eq!(rt; told_of_answer(rt.alloc(), 65_536)?.as_str(), "");
+    assert_eq!(rt;
+        told_of_answer(rt.alloc(), 65_537)?.as_str(),
+        "config.body: out of range"
+    );
+    Ok(())
+}
+
+// What is told of a route with so many times GET and another method.
+fn told_of_methods(alloc: Global, count: usize, last: &str) -> Result<String, Fail> {
+    let body = of_many(alloc, r#"{"methods":["#, r#""GET","#, count, last)?;
+    told(alloc, Kind::Route, body.as_str())
+}
+
+#[test]
+fn a_list_has_64_members_at_most(rt: HostRuntime) -> Result<(), Fail> {
+    let told = told_of_methods(rt.alloc(), 63, r#""GET"]}"#)?;
+    assert_eq!(rt; told.as_str(), "methods: repeated");
+    let told = told_of_methods(rt.alloc(), 64, r#""GET"]}"#)?;
+    assert_eq!(rt; told.as_str(), "methods: out of range");
+    Ok(())
+}
+
+// A list that is too long has an empty text or a number, too.
+#[test]
+fn the_sooner_rule_of_a_long_list_is_told(rt: HostRuntime) -> Result<(), Fail> {
+    let told = told_of_methods(rt.alloc(), 64, r#"""]}"#)?;
+    assert_eq!(rt; told.as_str(), "methods: empty");
+    let told = told_of_methods(rt.alloc(), 64, "7]}")?;
+    assert_eq!(rt; told.as_str(), "methods: type");
     Ok(())
 }
