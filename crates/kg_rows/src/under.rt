@@ -274,7 +274,7 @@ fn with_id<T: Below>(rows: &RowTable<T>, upper: Kind, above: Id, id: Id) -> Opti
 }
 
 fn if_below<T: Below>(found: Option<&T>, upper: Kind, above: Id) -> Option<&T>
-    ensures { option_copied result ≡ find (T.below upper above) (option_to_list (option_copied found)) }
+    ensures { option_copied result ≡ find (T.below upper above) (option_to_list (option_copied found.entry)) }
 {
     match found {
         Some(row) => {
