@@ -1,12 +1,12 @@
 -- The commands so far with one more.
-use Rattle.std.proofs.Common.{◌≡◌, ℕ, Bool, true, false, List, [], ◌∷◌, ◌++◌, All, Option, Some, None, Result, Ok, Err, IsTrue, ⊤, refl, sym, ap, subst, ◌∙◌, true≢false, nat_eq}
+use Rattle.std.proofs.Common.{◌≡◌, ℕ, Bool, true, false, not, List, [], ◌∷◌, ◌++◌, All, Option, Some, None, Result, Ok, Err, IsTrue, refl, sym, ap, subst, ◌∙◌, true≢false, ap₂}
+use Rattle.std.specs.Bool.{⊤}
+use Rattle.std.proofs.lemmas.Bool.{and_parts}
 use Rattle.std.proofs.lemmas.List.Elements.{All-nil, All-push}
-use Rattle.std.specs.List.{IsDistinct}
-use Rattle.std.specs.Str.{bytes_eq}
 use Rattle.serde_json.specs.Data.{Data}
 use Rattle.serde_json.specs.View.{view}
 use Rattle.kg_entities.specs.RowLists.{RowLists, no_rows}
-use Rattle.kg_entities.specs.ValidRows.{AreValidRows, HasDistinctRows, HasReferences, IsValidAcl, IsValidBasicCred, IsValidConsumer, IsValidKeyCred, IsValidPlugin, IsValidRoute, IsValidService, same_membership, same_place}
+use Rattle.kg_entities.specs.ValidRows.{AreValidRows}
 use Rattle.kg_entities.specs.declared.entity.Entity.{Entity}
 use Rattle.kg_entities.specs.declared.entity.Kind.{Kind}
 use Rattle.kg_rows.specs.Allowed.{is_allowed}
@@ -23,7 +23,10 @@ use Rattle.kg_rows.specs.declared.draft.Refusal.{Refusal}
 use Rattle.kg_rows.specs.declared.draft.Refusal.TheVariants.{NotFound}
 use Rattle.kg_rows.specs.declared.place.Place.{Place}
 use Rattle.kg_schema.specs.Bases.{New}
-use Rattle.kg_declare.specs.Histories.{AreInsertions, InsertsValidRow, IsConsistent, IsInsertion}
+use Rattle.kg_declare.specs.Histories.{InsertsNewRow, InsertsValidRow, IsConsistent, IsDecided, IsInsertion}
+use Rattle.kg_declare.specs.Outcome.{decided}
+use Rattle.kg_declare.specs.Steps.{progress_at}
+use Rattle.kg_declare.specs.declared.progress.Made.{Made}
 
 -- ---- what is decided of an insertion
 
@@ -32,11 +35,11 @@ Inserts (command.Insert new) = ⊤
 Inserts (command.Update new) = ⊥
 Inserts (command.Delete kind id) = ⊥
 
-given : Result Command Refusal → Command → Command
+abbrev given : Result Command Refusal → Command → Command
 given (Ok done) other = done
 given (Err refusal) other = other
 
-is_ok : Result Command Refusal → Bool
+abbrev is_ok : Result Command Refusal → Bool
 is_ok (Ok done) = true
 is_ok (Err refusal) = false
 
@@ -65,11 +68,6 @@ insertion_inserts rows (Patch of_kind parent select form now) limit done is same
 insertion_inserts rows (Put of_kind parent select form id now) limit done is same = absurd is
 insertion_inserts rows (Delete of_kind parent select) limit done is same = absurd is
 
-valid_insertion : (done : Command) → Inserts done → IsValidCommand done → InsertsValidRow done
-valid_insertion (command.Insert new) is valid = valid
-valid_insertion (command.Update new) is valid = absurd is
-valid_insertion (command.Delete kind id) is valid = absurd is
-
 -- ---- one command more
 
 rows_from-push : (rows : RowLists) (commands : List Command) (done : Command) → rows_from rows (commands ++ done ∷ []) ≡ changed done (rows_from rows commands)
@@ -82,65 +80,42 @@ allowed-push limit rows [] done allowed valid may = (valid, may, tt)
 allowed-push limit rows (first ∷ commands) done allowed valid may =
     (allowed.0, allowed.1, allowed-push limit (changed first rows) commands done allowed.2 valid may)
 
-module _ (limit : ℕ) (rows : RowLists) (commands : List Command) (done : Command) (after : rows ≡ rows_after commands) where
-  pub rows_then : changed done rows ≡ rows_after (commands ++ done ∷ [])
-  rows_then = ap (changed done) after ∙ sym (rows_from-push no_rows commands done)
+-- the row of an allowed insertion is new
+untrue : (b : Bool) → not b ≡ true → b ≡ false
+untrue true is = absurd (true≢false (sym is))
+untrue false is = refl
 
-  pub insertions_then : AreInsertions limit commands → Inserts done → IsValidCommand done → IsTrue (is_allowed rows done limit)
-      → AreValidRows (changed done rows) → HasDistinctRows (changed done rows) → HasReferences (changed done rows)
-      → AreInsertions limit (commands ++ done ∷ [])
-  insertions_then so_far inserts puts_valid may valid distinct references = record {
-    inserts = All-push InsertsValidRow commands done so_far.inserts (valid_insertion done inserts puts_valid);
-    allowed = allowed-push limit no_rows commands done so_far.allowed puts_valid (subst (λ rows. IsTrue (is_allowed rows done limit)) after may);
-    valid = subst AreValidRows rows_then valid;
-    distinct = subst HasDistinctRows rows_then distinct;
-    references = subst HasReferences rows_then references;
+pub new_row : (rows : RowLists) (limit : ℕ) (done : Command) → Inserts done → IsTrue (is_allowed rows done limit) → InsertsNewRow rows done
+new_row rows limit (command.Insert new) is may = untrue _ ((and_parts _ _ ((and_parts _ _ ((and_parts _ _ may).0)).0)).0)
+new_row rows limit (command.Update new) is may = absurd is
+new_row rows limit (command.Delete kind id) is may = absurd is
+
+inserts_if_new : (rows : RowLists) (done : Command) → InsertsNewRow rows done → IsValidCommand done → InsertsValidRow done
+inserts_if_new rows (command.Insert new) is valid = valid
+inserts_if_new rows (command.Update new) is valid = absurd is
+inserts_if_new rows (command.Delete kind id) is valid = absurd is
+
+module _ (limit : ℕ) (old new : Made) (draft : Draft) (done : Command) (decided_so : IsDecided limit old.rows draft done)
+    (rows : new.rows ≡ changed done old.rows) (commands : new.commands ≡ old.commands ++ done ∷ []) where
+  -- what a step means, it leaves
+  pub step_leaves : (before drawn : ℕ) → decided (progress_at old before) drawn (decision old.rows draft limit) ≡ Ok (progress_at new drawn)
+  step_leaves before drawn =
+      ap (decided (progress_at old before) drawn) decided_so.decides
+      ∙ ap₂ (λ rows commands. Ok (record { rows = rows; commands = commands; drawn = drawn })) (sym rows) (sym commands)
+
+  -- and the rows so far are again those after the commands so far
+  pub step_consistent : AreValidRows old.rows → IsConsistent limit old → IsConsistent limit new
+  step_consistent valid is = record {
+    rows = rows ∙ ap (changed done) is.rows ∙ sym (rows_from-push no_rows old.commands done) ∙ ap rows_after (sym commands);
+    inserts = subst (All InsertsValidRow) (sym commands)
+        (All-push InsertsValidRow old.commands done is.inserts (inserts_if_new old.rows done decided_so.new (decided_so.valid valid)));
+    allowed = subst (λ all. AreAllowed no_rows all limit) (sym commands)
+        (allowed-push limit no_rows old.commands done is.allowed (decided_so.valid valid) (subst (λ rows. IsTrue (is_allowed rows done limit)) is.rows decided_so.allowed));
   }
 
-none_are_shared : {X : Type 0} (same : X → X → Bool) → IsDistinct same []
-unfolding IsDistinct
-none_are_shared same = tt
-
--- no commands
-pub nothing_inserted : (limit : ℕ) → AreInsertions limit []
-nothing_inserted limit = record {
-  inserts = All-nil InsertsValidRow;
-  allowed = tt;
-  valid = record {
-    services = All-nil IsValidService;
-    routes = All-nil IsValidRoute;
-    consumers = All-nil IsValidConsumer;
-    key_creds = All-nil IsValidKeyCred;
-    basic_creds = All-nil IsValidBasicCred;
-    acls = All-nil IsValidAcl;
-    plugins = All-nil IsValidPlugin;
-  };
-  distinct = record {
-    ids = record {
-      services = none_are_shared nat_eq;
-      routes = none_are_shared nat_eq;
-      consumers = none_are_shared nat_eq;
-      key_creds = none_are_shared nat_eq;
-      basic_creds = none_are_shared nat_eq;
-      acls = none_are_shared nat_eq;
-      plugins = none_are_shared nat_eq;
-    };
-    service_names = none_are_shared bytes_eq;
-    route_names = none_are_shared bytes_eq;
-    usernames = none_are_shared bytes_eq;
-    custom_ids = none_are_shared bytes_eq;
-    keys = none_are_shared bytes_eq;
-    basic_usernames = none_are_shared bytes_eq;
-    memberships = none_are_shared same_membership;
-    places = none_are_shared same_place;
-  };
-  references = record {
-    routes = All-nil _;
-    key_creds = All-nil _;
-    basic_creds = All-nil _;
-    acls = All-nil _;
-    services_of_plugins = All-nil _;
-    routes_of_plugins = All-nil _;
-    consumers_of_plugins = All-nil _;
-  };
+pub nothing_consistent : (limit : ℕ) (made : Made) → made.rows ≡ no_rows → made.commands ≡ [] → IsConsistent limit made
+nothing_consistent limit made rows commands = record {
+  rows = rows ∙ ap rows_after (sym commands);
+  inserts = subst (All InsertsValidRow) (sym commands) (All-nil InsertsValidRow);
+  allowed = subst (λ all. AreAllowed no_rows all limit) (sym commands) tt;
 }

@@ -4,15 +4,20 @@ use Rattle.std.proofs.lemmas.Bool.Decides.{nat_tests}
 use Rattle.std.proofs.lemmas.List.{append-nil}
 use Rattle.serde_json.specs.Data.{Data, Members, object}
 use Rattle.kg_entities.specs.Ids.{drawn_id}
+use Rattle.kg_rows.specs.Decision.{Decides}
+use Rattle.kg_rows.specs.declared.command.Command.{Command}
+use Rattle.kg_rows.specs.declared.draft.DecideError.{DecideError}
+use Rattle.kg_rows.specs.declared.draft.DecideError.TheVariants as decide_error
+use Rattle.kg_rows.specs.declared.draft.Refusal.{Refusal}
 use Rattle.kg_schema.proofs.RuleLemmas.{in_order_none}
 use Rattle.kg_schema.specs.Rules.{Fault, in_order}
 use Rattle.kg_schema.specs.Settings.{id_at}
 use Rattle.kg_schema.specs.declared.rule.Rule.TheVariants.{WrongType}
 use Rattle.kg_declare.specs.Faults.{own_faults}
 use Rattle.kg_declare.specs.Histories.{IsConsistent}
-use Rattle.kg_declare.specs.Outcome.{Progress, Refused, declaration_of, declared, outcome, start, unread, next, identified, inserted, row_faults, violated, with_row, with_rows, wrong_faults}
+use Rattle.kg_declare.specs.Outcome.{Progress, Refused, decided, declaration_of, declared, outcome, start, unread, next, identified, inserted, row_faults, violated, with_row, with_rows, wrong_faults}
 use Rattle.kg_declare.specs.Rows.{Row}
-use Rattle.kg_declare.specs.Steps.{IsIdOf, IsRefusedAt, IsUnread, Leaves, Prepares, TellsFaults, progress_after, progress_at}
+use Rattle.kg_declare.specs.Steps.{IsIdOf, IsRefusedAt, IsUnread, Leaves, Prepares, Refuses, TellsFaults, TellsRefusal, progress_after, progress_at}
 use Rattle.kg_declare.specs.declared.error.DeclareError.{DeclareError}
 use Rattle.kg_declare.specs.declared.error.DeclareError.TheVariants as error
 use Rattle.kg_declare.specs.declared.progress.Made.{Made}
@@ -76,6 +81,17 @@ pub row_refused : (draws : List (List ℕ)) (now limit : ℕ) (row : Row) (progr
 unfolding with_row
 row_refused draws now limit row progress (error.Refused response) told = rw (no_faults (row_faults row) told.0, told.1) refl
 row_refused draws now limit row progress error.NoMemory told = tt
+
+-- what is refused of a draft
+pub refused_draft : (e : DecideError) (told : DeclareError) (meant : Result Command Refusal) → TellsRefusal told e → Decides {A = Command} (Err e) meant → Refuses told meant
+refused_draft (decide_error.Refused refusal) (error.Refused response) meant told is = (refusal, is, told)
+refused_draft decide_error.NoMemory (error.Refused response) meant told is = absurd told
+refused_draft e error.NoMemory meant told is = tt
+
+pub refused_at : (e : DeclareError) (progress : Progress) (drawn : ℕ) (meant : Result Command Refusal) → Refuses e meant → IsRefusedAt e (decided progress drawn meant) drawn
+refused_at (error.Refused response) progress drawn meant told =
+    ap (decided progress drawn) told.1 ∙ ap (λ reply. Err (record { response = reply; drawn = drawn })) (sym told.2)
+refused_at error.NoMemory progress drawn meant told = tt
 
 -- ---- rows
 

@@ -31,7 +31,17 @@ returns-in-Ok-insert_rows-clause-outcome g c =
     }
 
 pub returns-in-Ok-insert_rows-clause-commands : goal.returns-in-Ok-insert_rows-clause-commands
-returns-in-Ok-insert_rows-clause-commands g c = (c.in-Ok-insert_rows.ensures.consistent (c.new-made.ensures.consistent c.args.limit)).commands
+returns-in-Ok-insert_rows-clause-commands g c =
+    let is = c.in-Ok-insert_rows.ensures.consistent (c.new-made.ensures.consistent c.args.limit) in
+    let law = c.allowed_commands_make_valid_rows.ensures in
+    let commands = c.insert_rows.new.made.commands in
+    record {
+      inserts = is.inserts;
+      allowed = is.allowed;
+      valid = law.valid commands c.args.limit is.allowed;
+      distinct = law.distinct commands c.args.limit is.allowed;
+      references = law.references commands c.args.limit is.allowed;
+    }
 
 pub returns-in-Err-insert_rows-clause-outcome : goal.returns-in-Err-insert_rows-clause-outcome
 returns-in-Err-insert_rows-clause-outcome g c =
