@@ -4,14 +4,20 @@ use Rattle.std.proofs.lemmas.Bool.Decides.{nat_tests}
 use Rattle.std.proofs.lemmas.List.{append-nil}
 use Rattle.serde_json.specs.Data.{Data, Members, object}
 use Rattle.kg_entities.specs.Ids.{drawn_id}
+use Rattle.kg_rows.specs.Decision.{Decides}
+use Rattle.kg_rows.specs.declared.command.Command.{Command}
+use Rattle.kg_rows.specs.declared.draft.DecideError.{DecideError}
+use Rattle.kg_rows.specs.declared.draft.DecideError.TheVariants as decide_error
+use Rattle.kg_rows.specs.declared.draft.Refusal.{Refusal}
 use Rattle.kg_schema.proofs.RuleLemmas.{in_order_none}
 use Rattle.kg_schema.specs.Rules.{Fault, in_order}
 use Rattle.kg_schema.specs.Settings.{id_at}
 use Rattle.kg_schema.specs.declared.rule.Rule.TheVariants.{WrongType}
 use Rattle.kg_declare.specs.Faults.{own_faults}
-use Rattle.kg_declare.specs.Outcome.{Progress, Refused, declaration_of, declared, outcome, start, unread, next, identified, inserted, row_faults, violated, with_row, with_rows, wrong_faults}
+use Rattle.kg_declare.specs.Histories.{IsConsistent}
+use Rattle.kg_declare.specs.Outcome.{Progress, Refused, decided, declaration_of, declared, outcome, start, unread, next, identified, inserted, row_faults, violated, with_row, with_rows, wrong_faults}
 use Rattle.kg_declare.specs.Rows.{Row}
-use Rattle.kg_declare.specs.Steps.{IsIdOf, IsRefusedAt, IsUnread, Leaves, Prepares, TellsFaults, progress_at}
+use Rattle.kg_declare.specs.Steps.{IsIdOf, IsRefusedAt, IsUnread, Leaves, Prepares, Refuses, TellsFaults, TellsRefusal, progress_after, progress_at}
 use Rattle.kg_declare.specs.declared.error.DeclareError.{DeclareError}
 use Rattle.kg_declare.specs.declared.error.DeclareError.TheVariants as error
 use Rattle.kg_declare.specs.declared.progress.Made.{Made}
@@ -76,6 +82,17 @@ unfolding with_row
 row_refused draws now limit row progress (error.Refused response) told = rw (no_faults (row_faults row) told.0, told.1) refl
 row_refused draws now limit row progress error.NoMemory told = tt
 
+-- what is refused of a draft
+pub refused_draft : (e : DecideError) (told : DeclareError) (meant : Result Command Refusal) → TellsRefusal told e → Decides {A = Command} (Err e) meant → Refuses told meant
+refused_draft (decide_error.Refused refusal) (error.Refused response) meant told is = (refusal, is, told)
+refused_draft decide_error.NoMemory (error.Refused response) meant told is = absurd told
+refused_draft e error.NoMemory meant told is = tt
+
+pub refused_at : (e : DeclareError) (progress : Progress) (drawn : ℕ) (meant : Result Command Refusal) → Refuses e meant → IsRefusedAt e (decided progress drawn meant) drawn
+refused_at (error.Refused response) progress drawn meant told =
+    ap (decided progress drawn) told.1 ∙ ap (λ reply. Err (record { response = reply; drawn = drawn })) (sym told.2)
+refused_at error.NoMemory progress drawn meant told = tt
+
 -- ---- rows
 
 -- what was inserted so far, and what is ahead
@@ -129,10 +146,11 @@ pub faultless_inserted : (line : List ℕ) (rows : List Row) (now limit : ℕ) (
 unfolding outcome declared
 faultless_inserted line rows now limit draws ready = rw (ready.read, ready.faultless, ready.rows) refl
 
--- with no rows, and with no ids behind those that were drawn
+-- beginning with no rows
 pub from_start : (draws : List (List ℕ)) (now limit : ℕ) (rows : List Row) (old : Made) (answer : Result Progress Refused) → progress_at old 0 ≡ start
-    → with_rows (draws ++ []) now limit rows (progress_at old 0) ≡ answer → with_rows draws now limit rows start ≡ answer
-from_start draws now limit rows old answer begun is =
-    ap (with_rows draws now limit rows) (sym begun)
-    ∙ ap (λ all. with_rows all now limit rows (progress_at old 0)) (sym (append-nil draws))
-    ∙ is
+    → with_rows draws now limit rows (progress_at old 0) ≡ answer → with_rows draws now limit rows start ≡ answer
+from_start draws now limit rows old answer begun is = ap (with_rows draws now limit rows) (sym begun) ∙ is
+
+-- the rows are those after the commands
+pub at_commands : (limit : ℕ) (made : Made) (drawn : ℕ) → IsConsistent limit made → progress_at made drawn ≡ progress_after made.commands drawn
+at_commands limit made drawn is = ap (λ rows. record { rows = rows; commands = made.commands; drawn = drawn }) is.rows

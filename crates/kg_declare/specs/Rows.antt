@@ -1,11 +1,12 @@
 -- The rows of a declaration in the order in which they are inserted: kind by kind, and in a kind first
 -- those of the declaration's own list, then those that are nested in other rows, by their parents' order
 -- (Kong Gateway manual, declarative configuration; the order is this project's own).
-use Rattle.std.specs.Prelude.{ℕ, suc, List, [], ◌∷◌, ◌++◌, fold, map, Option, Some, None, unwrap_or, is_none, codes, if◌then◌else◌}
+use Rattle.std.specs.Prelude.{ℕ, suc, List, [], ◌∷◌, ◌++◌, fold, map, Option, Some, None, unwrap_or, is_none, codes, if◌then◌else◌, IfSome, IsTrue}
 use Rattle.std.specs.Str.{bytes_eq}
 use Rattle.serde_json.specs.Data.{Data, Members, no_members, member}
 use Rattle.kg_entities.specs.declared.entity.Kind.{Kind}
 use Rattle.kg_entities.specs.declared.entity.Kind.TheVariants as kind
+use Rattle.kg_rows.specs.Decision.{nests}
 use Rattle.kg_declare.specs.Faults.{rows_at}
 use Rattle.kg_declare.specs.declared.declared.Place.{Place}
 
@@ -16,6 +17,10 @@ pub record Row : Type 0 where
   pub parent : Option Place
   pub members : Members
   pub wrong : List (List ℕ)
+
+-- the row stands under one of a kind under which its own kind can stand, if it stands under one
+abbrev pub Stands : Row → Type 0
+Stands row = IfSome row.parent (λ place. IsTrue (nests place.kind row.kind))
 
 abbrev pub row_of : Kind → Option Place → Members → Row
 row_of kind parent members = record { kind = kind; parent = parent; members = members; wrong = [] }

@@ -5,9 +5,13 @@ use Rattle.kg_entities.specs.Ids.{drawn_id}
 use Rattle.kg_message.specs.declared.response.Response.{Response}
 use Rattle.kg_rows.specs.Rows.{rows_after}
 use Rattle.kg_rows.specs.declared.command.Command.{Command}
+use Rattle.kg_rows.specs.declared.draft.DecideError.{DecideError}
+use Rattle.kg_rows.specs.declared.draft.DecideError.TheVariants as decide_error
+use Rattle.kg_rows.specs.declared.draft.Refusal.{Refusal}
 use Rattle.kg_schema.specs.Rules.{Fault}
 use Rattle.kg_declare.specs.Faults.{own_faults}
 use Rattle.kg_declare.specs.Outcome.{Progress, Refused, declaration_of, unread, violated}
+use Rattle.kg_declare.specs.RefusalBody.{refusal_response}
 use Rattle.kg_declare.specs.Rows.{Row, rows_of}
 use Rattle.kg_declare.specs.declared.error.DeclareError.{DeclareError}
 use Rattle.kg_declare.specs.declared.error.DeclareError.TheVariants as error
@@ -26,6 +30,16 @@ IsRefusedAt error.NoMemory meant drawn = ⊤
 abbrev pub Leaves : {T : Type 0} → Result T DeclareError → Result Progress Refused → Made → ℕ → Type 0
 Leaves (Ok done) meant made drawn = meant ≡ Ok (progress_at made drawn)
 Leaves (Err e) meant made drawn = IsRefusedAt e meant drawn
+
+-- the reply tells the refusal; want of memory is free
+abbrev pub Refuses : DeclareError → Result Command Refusal → Type 0
+Refuses (error.Refused response) meant = (refusal : Refusal) × (meant ≡ Err refusal) × (response ≡ refusal_response refusal)
+Refuses error.NoMemory meant = ⊤
+
+abbrev pub TellsRefusal : DeclareError → DecideError → Type 0
+TellsRefusal (error.Refused response) (decide_error.Refused refusal) = response ≡ refusal_response refusal
+TellsRefusal (error.Refused response) decide_error.NoMemory = ⊥
+TellsRefusal error.NoMemory e = ⊤
 
 -- the ids that a step drew, and what it left: those drawn before it stand in front, and any may follow
 pub record Steps {S T : Type 0} (draws : S → S → List (List ℕ) → Type 0) (before now : S) (result : Result T DeclareError)

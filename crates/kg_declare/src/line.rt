@@ -16,7 +16,7 @@ use crate::progress::{Made, insert_rows};
 use crate::refusal::violation_response;
 use kg_message::message;
 use kg_outside::Ids;
-use kg_rows::Command;
+use kg_rows::{Command, allowed_commands_make_valid_rows};
 use kg_text::{List, NoMemory};
 use serde_json::{Map, Value};
 use std::alloc::Global;
@@ -42,6 +42,7 @@ pub fn declare<I: Ids>(
     ensures outcome { Declares I.draws ids.old ids.new result (outcome line.now now limit) }
     ensures commands { IfOk result (AreInsertions limit) }
 {
+    allowed_commands_make_valid_rows();
     let rows = match prepared(alloc, line) {
         Ok(rows) => rows,
         Err(e) => return Err(e),

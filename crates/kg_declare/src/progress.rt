@@ -1,21 +1,26 @@
 //! The rows of a declaration, inserted one after another.
 
-ghost use Rattle.std.specs.Prelude.{◌≡◌, [], ℕ, ◌<◌, IfErr, IfOk, OnOk, fold, length, map};
+ghost use Rattle.std.specs.Prelude.{◌≡◌, [], ◌∷◌, ◌++◌, ℕ, ◌<◌, All, IfErr, IfOk, OnOk, fold, length, map};
 ghost use Rattle.serde_json.specs.Data.{object};
 ghost use Rattle.serde_json.specs.View.{members_view, view};
-ghost use Rattle.kg_rows.specs.Decision.{decision};
+ghost use Rattle.kg_rows.specs.Decision.{IsProper, decision};
+ghost use Rattle.kg_rows.specs.Rows.{changed};
 ghost use Rattle.kg_schema.specs.Rules.{tell};
 ghost use Rattle.kg_schema.specs.Settings.{id_at};
+ghost use Rattle.kg_declare.specs.Histories.{InsertsNewRow, IsConsistent, IsDecided, IsInsertion};
 ghost use Rattle.kg_declare.specs.Outcome.{body_faults, decided, id_in_place, parent_in_place, parent_of, row_faults, start, with_row, with_rows, wrong_faults};
+ghost use Rattle.kg_declare.specs.Rows.{Stands};
 ghost use Rattle.kg_declare.specs.SeenRows.{seen, seen_all};
-ghost use Rattle.kg_declare.specs.Steps.{Identifies, Leaves, Steps, StepsFromStart, TellsFaults, progress_at};
+ghost use Rattle.kg_declare.specs.Steps.{Identifies, Leaves, Refuses, Steps, StepsFromStart, TellsFaults, TellsRefusal, progress_at};
 
 use crate::declared::{Declared, Place};
 use crate::error::DeclareError;
 use crate::refusal::{refusal_response, violation_response};
 use kg_entities::{Id, Kind, Rows};
 use kg_outside::Ids;
-use kg_rows::{Command, DecideError, Draft, Parent, Select, apply, decide};
+use kg_rows::{
+    Command, DecideError, Draft, Parent, Select, allowed_commands_make_valid_rows, decide,
+};
 use kg_schema::{Faults, Form, FormError, Rule, field_faults, read_form};
 use kg_text::{List, NoMemory, Text};
 use serde_json::Value;
@@ -31,7 +36,8 @@ pub struct Made {
 impl Made {
     /// No rows. It takes no memory.
     pub fn new(alloc: Global) -> Made
-        ensures { progress_at result 0 ≡ start }
+        ensures start { progress_at result 0 ≡ start }
+        ensures consistent { (limit : ℕ) → IsConsistent limit result }
     {
         Made {
             rows: Rows::new(alloc),
@@ -49,7 +55,9 @@ pub fn insert_rows<I: Ids>(
     now: u64,
     limit: u32,
 ) -> Result<(), DeclareError>
-    ensures { StepsFromStart I.draws ids.old ids.new result made.old made.new (λ draws. with_rows draws now limit (seen_all rows.items)) }
+    requires { All Stands (seen_all rows.items) }
+    ensures steps { StepsFromStart I.draws ids.old ids.new result made.old made.new (λ draws. with_rows draws now limit (seen_all rows.items)) }
+    ensures consistent { IsConsistent limit made.old → OnOk result (IsConsistent limit made.new) }
 {
     for row in rows {
         match insert_row(alloc, row, made, ids, now, limit) {
@@ -68,7 +76,9 @@ fn insert_row<I: Ids>(
     now: u64,
     limit: u32,
 ) -> Result<(), DeclareError>
-    ensures { Steps I.draws ids.old ids.new result made.old made.new (λ draws. with_row draws now limit (seen row)) }
+    requires { Stands (seen row) }
+    ensures steps { Steps I.draws ids.old ids.new result made.old made.new (λ draws. with_row draws now limit (seen row)) }
+    ensures consistent { IsConsistent limit made.old → OnOk result (IsConsistent limit made.new) }
 {
     let kind = row.kind;
     let parent = parent_of(&made.rows, row.parent);
@@ -90,18 +100,70 @@ fn insert_row<I: Ids>(
 
 // What the draft's command makes of the rows.
 fn insert(alloc: Global, draft: &Draft, made: &mut Made, limit: u32) -> Result<(), DeclareError>
-    ensures { (before drawn : ℕ) → Leaves result (decided (progress_at made.old before) drawn (decision made.old.rows draft.now limit)) made.new drawn }
+    requires insertion { IsInsertion draft.now }
+    requires proper { IsProper draft.now }
+    ensures leaves { (before drawn : ℕ) → Leaves result (decided (progress_at made.old before) drawn (decision made.old.rows draft.now limit)) made.new drawn }
+    ensures consistent { IsConsistent limit made.old → OnOk result (IsConsistent limit made.new) }
 {
-    match decide(alloc, &made.rows, draft, limit) {
+    allowed_commands_make_valid_rows();
+    match decided(alloc, &made.rows, draft, limit) {
         Ok(command) => {
-            apply(alloc, &mut made.rows, &command)?;
-            made.commands.push(command)?;
+            add(alloc, made, command)?;
             Ok(())
         }
-        Err(DecideError::Refused(refusal)) => {
-            Err(DeclareError::Refused(refusal_response(alloc, &refusal)?))
-        }
-        Err(DecideError::NoMemory) => Err(DeclareError::NoMemory),
+        Err(e) => Err(e),
+    }
+}
+
+// The draft's command.
+fn decided(
+    alloc: Global,
+    rows: &Rows,
+    draft: &Draft,
+    limit: u32,
+) -> Result<Command, DeclareError>
+    requires insertion { IsInsertion draft.now }
+    requires proper { IsProper draft.now }
+    ensures ok { IfOk result (λ command. IsDecided limit rows.now draft.now command) }
+    ensures err { IfErr result (λ e. Refuses e (decision rows.now draft.now limit)) }
+{
+    match decide(alloc, rows, draft, limit) {
+        Ok(command) => Ok(command),
+        Err(e) => Err(refused(alloc, e)),
+    }
+}
+
+fn refused(alloc: Global, e: DecideError) -> DeclareError
+    ensures { TellsRefusal result e }
+{
+    match e {
+        DecideError::Refused(refusal) => match refusal_response(alloc, &refusal) {
+            Ok(response) => DeclareError::Refused(response),
+            Err(NoMemory) => DeclareError::NoMemory,
+        },
+        DecideError::NoMemory => DeclareError::NoMemory,
+    }
+}
+
+// Puts the new row at the end of its kind, and keeps the command.
+fn add(alloc: Global, made: &mut Made, command: Command) -> Result<(), NoMemory>
+    requires { InsertsNewRow made.old.rows command }
+    ensures rows { OnOk result (made.new.rows ≡ changed command made.old.rows) }
+    ensures commands { OnOk result (made.new.commands ≡ made.old.commands ++ command ∷ []) }
+{
+    add_row(alloc, &mut made.rows, &command)?;
+    made.commands.push(command)?;
+    Ok(())
+}
+
+fn add_row(alloc: Global, rows: &mut Rows, command: &Command) -> Result<(), NoMemory>
+    requires { InsertsNewRow rows.old command.now }
+    ensures { OnOk result (rows.new ≡ changed command.now rows.old) }
+{
+    match command {
+        Command::Insert(row) => rows.insert(alloc, row),
+        Command::Update(_) => unreachable!(),
+        Command::Delete { .. } => unreachable!(),
     }
 }
 

@@ -23,6 +23,7 @@ use Rattle.kg_rows.specs.declared.draft.Refusal.TheVariants.{Full}
 use Rattle.kg_rows.specs.declared.place.Place.{Place}
 use Rattle.kg_rows.specs.declared.select.Parent.{Parent}
 use Rattle.kg_rows.specs.declared.select.Select.{Select}
+use Rattle.kg_rows.proofs.AnswerLemmas.{needed_parts, ok_is, then_parts, unless_none, unless_rest, unmapped}
 use Rattle.kg_rows.proofs.FoundLemmas.{is_there}
 use Rattle.kg_rows.proofs.FreeLemmas.{covers_new, covers_old, CoversOthers, has_new_id, has_what_it_names, is_unique_row, or_first, or_second}
 use Rattle.kg_rows.proofs.MadeLemmas.{id_over_again, id_over_old, kind_over}
@@ -31,39 +32,7 @@ use Rattle.kg_schema.specs.Between.{faults_between}
 use Rattle.kg_schema.specs.Finished.{row_over}
 use Rattle.kg_schema.specs.declared.base.Links.{Links}
 
--- ---- answers
-
-abbrev answered : {A : Type 0} → A → Result A Refusal
-answered x = Ok x
-
-abbrev refusing : {A : Type 0} → Refusal → Result A Refusal
-refusing e = Err e
-
-ok_is : {A : Type 0} {x y : A} → answered x ≡ answered y → x ≡ y
-ok_is {A} {x} same = ap (λ r. elim r [ Ok z ↦ z | Err e ↦ x ]) same
-
-refused_is_not_ok : {A : Type 0} {e : Refusal} {y : A} → refusing e ≡ answered y → false ≡ true
-refused_is_not_ok same = ap (λ r. elim r [ Ok z ↦ true | Err e ↦ false ]) same
-
-unless_none : {A : Type 0} (o : Option Refusal) (r : Result A Refusal) (y : A) → unless o r ≡ Ok y → o ≡ None
-unless_none None r y same = refl
-unless_none (Some e) r y same = absurd (true≢false (sym (refused_is_not_ok same)))
-
-unless_rest : {A : Type 0} (o : Option Refusal) (r : Result A Refusal) (y : A) → unless o r ≡ Ok y → r ≡ Ok y
-unless_rest None r y same = same
-unless_rest (Some e) r y same = absurd (true≢false (sym (refused_is_not_ok same)))
-
-then_parts : {A B : Type 0} (r : Result A Refusal) (next : A → Result B Refusal) (y : B) → and_then r next ≡ Ok y → (x : A) × (r ≡ Ok x) × (next x ≡ Ok y)
-then_parts (Ok x) next y same = (x, refl, same)
-then_parts (Err e) next y same = absurd (true≢false (sym (refused_is_not_ok same)))
-
-needed_parts : {A B : Type 0} (o : Option A) (next : A → Result B Refusal) (y : B) → needed o next ≡ Ok y → (x : A) × (o ≡ Some x) × (next x ≡ Ok y)
-needed_parts (Some x) next y same = (x, refl, same)
-needed_parts None next y same = absurd (true≢false (sym (refused_is_not_ok same)))
-
-unmapped : {A B : Type 0} (f : A → B) (o : Option A) → option_map f o ≡ None → o ≡ None
-unmapped f None none = refl
-unmapped f (Some x) none = absurd (true≢false (ap (λ o. elim o [ None ↦ false | Some z ↦ true ]) none))
+-- ---- tests
 
 three : (a b c : Bool) → a ≡ true → b ≡ true → c ≡ true → (a && b && c) ≡ true
 three a b c x y z = ap₂ (λ p q. p && q && c) x y ∙ z

@@ -1,8 +1,11 @@
 -- One turn of telling which watched keys differ.
-use Rattle.std.proofs.Common.{◌≡◌, ◌≢◌, List, [], ◌∷◌, ◌++◌, All, Contains, refl, sym, subst, inl, inr, ⊎_elim, arith}
+use Rattle.std.proofs.Common.{◌≡◌, ◌≢◌, ◌⊎◌, Bool, true, false, true≢false, ap, ◌∙◌, if◌then◌else◌, List, [], ◌∷◌, ◌++◌, All, Contains, refl, sym, subst, inl, inr, ⊎_elim, arith}
 use Rattle.std.proofs.lemmas.List.Elements.{All-nil, All-push, All-weaker, All-contains, All-contains_itself, Contains-push, Contains-append_left, Contains-get_or}
 use Rattle.std.proofs.lemmas.List.Quantifiers.{all_pairs_push}
-use Rattle.std.specs.List.{AllPairs}
+use Rattle.std.proofs.lemmas.Map.Views.{Contains-from_any, list_any-from_Contains}
+use Rattle.std.specs.Cmp.{IsEquivalence}
+use Rattle.std.specs.List.{AllPairs, list_any}
+use Rattle.indexmap.specs.IndexSet.{insert_key}
 use Rattle.kg_entities.specs.RowLists.{RowLists}
 use Rattle.kg_entities.specs.declared.key.Key.{Key}
 use Rattle.kg_rows.specs.Values.{value_of}
@@ -59,3 +62,12 @@ all_front P xs y all =
 
 pub all_last : {X : Type 0} (P : X → Type 0) (xs : List X) (y : X) → All P (xs ++ y ∷ []) → P y
 all_last P xs y all = All-contains P (xs ++ y ∷ []) y all (Contains-push xs y)
+
+-- a key that is put into a set is there already, or comes last
+pub kept_key : {K : Type 0} (eq : K → K → Bool) → IsEquivalence eq → ((x y : K) → eq x y ≡ true → x ≡ y) → (ks : List K) (k : K) (next : List K) → next ≡ insert_key eq ks k
+    → ((next ≡ ks) × Contains ks k) ⊎ ((next ≡ ks ++ k ∷ []) × (¬ (Contains ks k)))
+kept_key eq laws exact ks k next is = by (list_any (eq k) ks) refl
+  where
+    by : (b : Bool) → list_any (eq k) ks ≡ b → ((next ≡ ks) × Contains ks k) ⊎ ((next ≡ ks ++ k ∷ []) × (¬ (Contains ks k)))
+    by true among = inl (is ∙ ap (λ b. if b then ks else ks ++ k ∷ []) among, Contains-from_any exact k ks among)
+    by false among = inr (is ∙ ap (λ b. if b then ks else ks ++ k ∷ []) among, λ there. true≢false (sym (list_any-from_Contains laws k ks there) ∙ among))

@@ -119,12 +119,12 @@ groups_alike consumer own acls are =
       ∙ sym (in_set consumer acls [] t))
 
 -- a membership that another row has stands among the rows of its consumer
-pub taken_alike : (membership : AclRow) (own acls : List AclRow) → AreRowsOf membership.consumer own acls
-    → list_any (λ other. not (other.id == membership.id) && same_membership other membership) own ≡ list_any (λ other. not (other.id == membership.id) && same_membership other membership) acls
-taken_alike membership own acls are =
-    are (λ other. not (other.id == membership.id) && same_membership other membership)
-    ∙ any_same (λ other. other.consumer == membership.consumer && (not (other.id == membership.id) && same_membership other membership)) (λ other. not (other.id == membership.id) && same_membership other membership)
-      (λ other. by (other.consumer == membership.consumer) (not (other.id == membership.id)) (bytes_eq other.group membership.group)) acls
+pub taken_alike : (test : AclRow → Bool) (membership : AclRow) (own acls : List AclRow) → AreRowsOf membership.consumer own acls
+    → list_any (λ other. test other && same_membership other membership) own ≡ list_any (λ other. test other && same_membership other membership) acls
+taken_alike test membership own acls are =
+    are (λ other. test other && same_membership other membership)
+    ∙ any_same (λ other. other.consumer == membership.consumer && (test other && same_membership other membership)) (λ other. test other && same_membership other membership)
+      (λ other. by (other.consumer == membership.consumer) (test other) (bytes_eq other.group membership.group)) acls
   where
     by : (a b c : Bool) → (a && (b && (a && c))) ≡ (b && (a && c))
     by true b c = refl

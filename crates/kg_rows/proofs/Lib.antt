@@ -1,6 +1,10 @@
+mod AllowedHistories
+mod AnswerLemmas
 mod Covers
 mod DecidedLemmas
 mod Differs
+mod DistinctKept
+mod DistinctLemmas
 mod Exact
 mod FoundLemmas
 mod FreeLemmas
@@ -8,7 +12,10 @@ mod GenerationLemmas
 mod GroupLemmas
 mod HistoryLemmas
 mod MadeLemmas
+mod ReferencesKept
 mod RefusalLemmas
 mod SameLemmas
 mod Searches
 mod SetLemmas
+mod ValidDecisions
+mod ValidKept

@@ -1,6 +1,9 @@
 -- Commands that put valid rows.
-use Rattle.std.specs.Prelude.{⊤}
+use Rattle.std.specs.Prelude.{ℕ, List, [], ◌∷◌, IsTrue, ⊤}
+use Rattle.kg_entities.specs.RowLists.{RowLists}
 use Rattle.kg_entities.specs.ValidRows.{IsValidRow}
+use Rattle.kg_rows.specs.Allowed.{is_allowed}
+use Rattle.kg_rows.specs.Rows.{changed}
 use Rattle.kg_rows.specs.declared.command.Command.{Command}
 use Rattle.kg_rows.specs.declared.command.Command.TheVariants.{Insert, Update, Delete}
 
@@ -9,3 +12,9 @@ abbrev pub IsValidCommand : Command → Type 0
 IsValidCommand (Insert new) = IsValidRow new
 IsValidCommand (Update new) = IsValidRow new
 IsValidCommand (Delete kind id) = ⊤
+
+-- from these rows on each command puts a valid row, if one, and is allowed at the rows before it
+abbrev pub AreAllowed : RowLists → List Command → ℕ → Type 0
+AreAllowed rows [] limit = ⊤
+AreAllowed rows (command ∷ commands) limit =
+    IsValidCommand command × IsTrue (is_allowed rows command limit) × AreAllowed (changed command rows) commands limit

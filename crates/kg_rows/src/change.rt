@@ -11,9 +11,10 @@ use crate::candidates::candidates;
 use crate::command::Command;
 use crate::generations::changed_generations;
 use crate::touched::Touched;
-use crate::watch::{differing, watch};
+use crate::watch::{differing, listed, watch};
+use indexmap::IndexSet;
 use kg_entities::{Id, Kind, Rows};
-use kg_text::{List, NoMemory};
+use kg_text::NoMemory;
 use std::alloc::Global;
 
 /// Changes the rows as the command says, and tells exactly the keys and generations whose values
@@ -31,10 +32,11 @@ pub fn apply(alloc: Global, rows: &mut Rows, command: &Command) -> Result<Touche
 {
     let asked = candidates(alloc, rows, command)?;
     let watched = watch(alloc, rows, asked)?;
-    let room = Vec::with_capacity(alloc, watched.len())?;
+    let room = IndexSet::with_capacity(alloc, watched.len())?;
+    let list = Vec::with_capacity(alloc, watched.len())?;
     let gens = changed_generations(alloc, rows, command)?;
     run(alloc, rows, command)?;
-    let keys = List::from_vec(differing(rows, watched, room));
+    let keys = listed(differing(rows, watched, room), list);
     Ok(Touched { keys, gens })
 }
 

@@ -1,6 +1,8 @@
-//! What only one row may have, and which other row has it.
+//! What only one row may have, and which other row has it. All rows are searched only where a text is
+//! taken from a row that is changed, and among plugins.
 
-ghost use Rattle.std.specs.Prelude.{◌≡◌, ◌&&◌, find, option_map};
+ghost use Rattle.std.specs.Prelude.{◌≡◌, ◌==◌, ◌&&◌, Some, find, not, option_map};
+ghost use Rattle.std.specs.List.{list_any};
 ghost use Rattle.std.specs.Option.{option_copied, option_or};
 ghost use Rattle.std.specs.Str.{bytes_eq};
 ghost use Rattle.kg_entities.specs.Lookups.{is_text};
@@ -133,17 +135,26 @@ fn named_service(rows: &Rows, replaced: Option<Id>, service: &Service) -> Option
 fn service_name_holder(rows: &Rows, replaced: Option<Id>, name: &Text) -> Option<Id>
     ensures { result ≡ holder (λ other. other.id) replaced (λ other. is_text name.now other.name) rows.now.services }
 {
-    id_of(service_with_name(rows.services().as_slice(), replaced, name))
+    match replaced {
+        Some(old) => other_service(rows, old, name),
+        None => id_of(rows.service_named(name)),
+    }
 }
 
-fn service_with_name<'r>(
-    services: &'r [Service],
-    replaced: Option<Id>,
-    name: &Text,
-) -> Option<&'r Service>
-    ensures { option_copied result ≡ find (λ other. is_other replaced other.id && is_text name.now other.name) services.now }
+#[tactic(auto, using(crate::proofs::Searches::held_by_none))]
+fn other_service(rows: &Rows, old: Id, name: &Text) -> Option<Id>
+    ensures { result ≡ holder (λ other. other.id) (Some old) (λ other. is_text name.now other.name) rows.now.services }
 {
-    services.iter().find(|other| is_other(replaced, other.id) && is_text(&other.name, name))
+    if rows.is_service_name_taken(old, name) {
+        return id_of(service_with_name(rows.services().as_slice(), old, name));
+    }
+    None
+}
+
+fn service_with_name<'r>(services: &'r [Service], old: Id, name: &Text) -> Option<&'r Service>
+    ensures { option_copied result ≡ find (λ other. not (other.id == old) && is_text name.now other.name) services.now }
+{
+    services.iter().find(|other| other.id != old && is_text(&other.name, name))
 }
 
 fn named_route(rows: &Rows, replaced: Option<Id>, route: &Route) -> Option<Id>
@@ -158,13 +169,26 @@ fn named_route(rows: &Rows, replaced: Option<Id>, route: &Route) -> Option<Id>
 fn route_name_holder(rows: &Rows, replaced: Option<Id>, name: &Text) -> Option<Id>
     ensures { result ≡ holder (λ other. other.id) replaced (λ other. is_text name.now other.name) rows.now.routes }
 {
-    id_of(route_with_name(rows.routes().as_slice(), replaced, name))
+    match replaced {
+        Some(old) => other_route(rows, old, name),
+        None => id_of(rows.route_named(name)),
+    }
 }
 
-fn route_with_name<'r>(routes: &'r [Route], replaced: Option<Id>, name: &Text) -> Option<&'r Route>
-    ensures { option_copied result ≡ find (λ other. is_other replaced other.id && is_text name.now other.name) routes.now }
+#[tactic(auto, using(crate::proofs::Searches::held_by_none))]
+fn other_route(rows: &Rows, old: Id, name: &Text) -> Option<Id>
+    ensures { result ≡ holder (λ other. other.id) (Some old) (λ other. is_text name.now other.name) rows.now.routes }
 {
-    routes.iter().find(|other| is_other(replaced, other.id) && is_text(&other.name, name))
+    if rows.is_route_name_taken(old, name) {
+        return id_of(route_with_name(rows.routes().as_slice(), old, name));
+    }
+    None
+}
+
+fn route_with_name<'r>(routes: &'r [Route], old: Id, name: &Text) -> Option<&'r Route>
+    ensures { option_copied result ≡ find (λ other. not (other.id == old) && is_text name.now other.name) routes.now }
+{
+    routes.iter().find(|other| other.id != old && is_text(&other.name, name))
 }
 
 fn username_holder(rows: &Rows, replaced: Option<Id>, consumer: &Consumer) -> Option<Id>
@@ -179,17 +203,26 @@ fn username_holder(rows: &Rows, replaced: Option<Id>, consumer: &Consumer) -> Op
 fn username_text_holder(rows: &Rows, replaced: Option<Id>, name: &Text) -> Option<Id>
     ensures { result ≡ holder (λ other. other.id) replaced (λ other. is_text name.now other.username) rows.now.consumers }
 {
-    id_of(consumer_with_username(rows.consumers().as_slice(), replaced, name))
+    match replaced {
+        Some(old) => other_with_username(rows, old, name),
+        None => id_of(rows.consumer_with_username(name)),
+    }
 }
 
-fn consumer_with_username<'r>(
-    consumers: &'r [Consumer],
-    replaced: Option<Id>,
-    name: &Text,
-) -> Option<&'r Consumer>
-    ensures { option_copied result ≡ find (λ other. is_other replaced other.id && is_text name.now other.username) consumers.now }
+#[tactic(auto, using(crate::proofs::Searches::held_by_none))]
+fn other_with_username(rows: &Rows, old: Id, name: &Text) -> Option<Id>
+    ensures { result ≡ holder (λ other. other.id) (Some old) (λ other. is_text name.now other.username) rows.now.consumers }
 {
-    consumers.iter().find(|other| is_other(replaced, other.id) && is_text(&other.username, name))
+    if rows.is_username_taken(old, name) {
+        return id_of(consumer_with_username(rows.consumers().as_slice(), old, name));
+    }
+    None
+}
+
+fn consumer_with_username<'r>(consumers: &'r [Consumer], old: Id, name: &Text) -> Option<&'r Consumer>
+    ensures { option_copied result ≡ find (λ other. not (other.id == old) && is_text name.now other.username) consumers.now }
+{
+    consumers.iter().find(|other| other.id != old && is_text(&other.username, name))
 }
 
 fn custom_id_holder(rows: &Rows, replaced: Option<Id>, consumer: &Consumer) -> Option<Id>
@@ -204,51 +237,91 @@ fn custom_id_holder(rows: &Rows, replaced: Option<Id>, consumer: &Consumer) -> O
 fn custom_id_text_holder(rows: &Rows, replaced: Option<Id>, text: &Text) -> Option<Id>
     ensures { result ≡ holder (λ other. other.id) replaced (λ other. is_text text.now other.custom_id) rows.now.consumers }
 {
-    id_of(consumer_with_custom_id(rows.consumers().as_slice(), replaced, text))
+    match replaced {
+        Some(old) => other_with_custom_id(rows, old, text),
+        None => id_of(rows.consumer_with_custom_id(text)),
+    }
 }
 
-fn consumer_with_custom_id<'r>(
-    consumers: &'r [Consumer],
-    replaced: Option<Id>,
-    text: &Text,
-) -> Option<&'r Consumer>
-    ensures { option_copied result ≡ find (λ other. is_other replaced other.id && is_text text.now other.custom_id) consumers.now }
+#[tactic(auto, using(crate::proofs::Searches::held_by_none))]
+fn other_with_custom_id(rows: &Rows, old: Id, text: &Text) -> Option<Id>
+    ensures { result ≡ holder (λ other. other.id) (Some old) (λ other. is_text text.now other.custom_id) rows.now.consumers }
 {
-    consumers.iter().find(|other| is_other(replaced, other.id) && is_text(&other.custom_id, text))
+    if rows.is_custom_id_taken(old, text) {
+        return id_of(consumer_with_custom_id(rows.consumers().as_slice(), old, text));
+    }
+    None
+}
+
+fn consumer_with_custom_id<'r>(consumers: &'r [Consumer], old: Id, text: &Text) -> Option<&'r Consumer>
+    ensures { option_copied result ≡ find (λ other. not (other.id == old) && is_text text.now other.custom_id) consumers.now }
+{
+    consumers.iter().find(|other| other.id != old && is_text(&other.custom_id, text))
 }
 
 fn key_holder(rows: &Rows, replaced: Option<Id>, cred: &KeyCred) -> Option<Id>
     ensures { result ≡ holder (λ other. other.id) replaced (λ other. bytes_eq other.key cred.now.key) rows.now.key_creds }
 {
-    id_of(with_key(rows.key_creds().as_slice(), replaced, cred))
+    match replaced {
+        Some(old) => other_key(rows, old, cred),
+        None => id_of(rows.cred_with_key(&cred.key)),
+    }
 }
 
-fn with_key<'r>(creds: &'r [KeyCred], replaced: Option<Id>, cred: &KeyCred) -> Option<&'r KeyCred>
-    ensures { option_copied result ≡ find (λ other. is_other replaced other.id && bytes_eq other.key cred.now.key) creds.now }
+#[tactic(auto, using(crate::proofs::Searches::held_by_none))]
+fn other_key(rows: &Rows, old: Id, cred: &KeyCred) -> Option<Id>
+    ensures { result ≡ holder (λ other. other.id) (Some old) (λ other. bytes_eq other.key cred.now.key) rows.now.key_creds }
 {
-    creds.iter().find(|other| is_other(replaced, other.id) && other.key == cred.key)
+    if rows.is_key_taken(old, &cred.key) {
+        return id_of(with_key(rows.key_creds().as_slice(), old, cred));
+    }
+    None
+}
+
+fn with_key<'r>(creds: &'r [KeyCred], old: Id, cred: &KeyCred) -> Option<&'r KeyCred>
+    ensures { option_copied result ≡ find (λ other. not (other.id == old) && bytes_eq other.key cred.now.key) creds.now }
+{
+    creds.iter().find(|other| other.id != old && other.key == cred.key)
 }
 
 fn login_holder(rows: &Rows, replaced: Option<Id>, cred: &BasicCred) -> Option<Id>
     ensures { result ≡ holder (λ other. other.id) replaced (λ other. bytes_eq other.username cred.now.username) rows.now.basic_creds }
 {
-    id_of(with_login(rows.basic_creds().as_slice(), replaced, cred))
+    match replaced {
+        Some(old) => other_login(rows, old, cred),
+        None => id_of(rows.cred_with_username(&cred.username)),
+    }
 }
 
-fn with_login<'r>(
-    creds: &'r [BasicCred],
-    replaced: Option<Id>,
-    cred: &BasicCred,
-) -> Option<&'r BasicCred>
-    ensures { option_copied result ≡ find (λ other. is_other replaced other.id && bytes_eq other.username cred.now.username) creds.now }
+#[tactic(auto, using(crate::proofs::Searches::held_by_none))]
+fn other_login(rows: &Rows, old: Id, cred: &BasicCred) -> Option<Id>
+    ensures { result ≡ holder (λ other. other.id) (Some old) (λ other. bytes_eq other.username cred.now.username) rows.now.basic_creds }
 {
-    creds.iter().find(|other| is_other(replaced, other.id) && other.username == cred.username)
+    if rows.is_login_taken(old, &cred.username) {
+        return id_of(with_login(rows.basic_creds().as_slice(), old, cred));
+    }
+    None
+}
+
+fn with_login<'r>(creds: &'r [BasicCred], old: Id, cred: &BasicCred) -> Option<&'r BasicCred>
+    ensures { option_copied result ≡ find (λ other. not (other.id == old) && bytes_eq other.username cred.now.username) creds.now }
+{
+    creds.iter().find(|other| other.id != old && other.username == cred.username)
 }
 
 fn group_holder(rows: &Rows, replaced: Option<Id>, membership: &AclRow) -> Option<Id>
     ensures { result ≡ holder (λ other. other.id) replaced (λ other. same_membership other membership.now) rows.now.acls }
 {
-    id_of(with_membership(rows.acls().as_slice(), replaced, membership))
+    if has_other_membership(rows.acls_of(membership.consumer), &replaced, membership) {
+        return id_of(with_membership(rows.acls().as_slice(), replaced, membership));
+    }
+    None
+}
+
+fn has_other_membership(acls: &[AclRow], replaced: &Option<Id>, membership: &AclRow) -> bool
+    ensures { result ≡ list_any (λ other. is_other replaced.now other.id && same_membership other membership.now) acls.now }
+{
+    acls.iter().any(|other| is_other(*replaced, other.id) && is_same_membership(other, membership))
 }
 
 fn with_membership<'r>(

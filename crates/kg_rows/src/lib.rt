@@ -31,7 +31,7 @@ pub use crate::command::Command;
 pub use crate::decision::decide;
 pub use crate::draft::{DecideError, Draft, Refusal};
 pub use crate::find::selected;
-pub use crate::laws::last_command_changes_what_differs;
+pub use crate::laws::{allowed_commands_make_valid_rows, last_command_changes_what_differs};
 pub use crate::select::{Parent, Select};
 pub use crate::touched::Touched;
 pub use crate::value::value_of;

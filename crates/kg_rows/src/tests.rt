@@ -1,7 +1,9 @@
 mod decisions;
 
 use super::*;
-use kg_entities::{AclRow, Consumer, Entity, GenKey, Id, Key, KeyCred, Kind, Rows, Service, Value};
+use kg_entities::{
+    AclRow, Consumer, Entity, GenKey, Id, Key, KeyCred, Kind, Route, Rows, Service, Value,
+};
 use kg_text::{List, Text};
 use std::alloc::Global;
 use std::test::Fail;
@@ -171,6 +173,41 @@ fn commands_that_break_the_rows_are_not_allowed(rt: HostRuntime) -> Result<(), F
     }
     let more = Command::Insert(consumer(alloc, 4, "bob")?);
     assert!(rt; allowed(&rows, &more, 2) && !allowed(&rows, &more, 1));
+    Ok(())
+}
+
+fn route(alloc: Global, last: u8, service: u8) -> Result<Entity, Fail> {
+    let mut paths = List::new(alloc);
+    paths.push(text(alloc, "/a")?)?;
+    Ok(Entity::Route(Route {
+        id: id(last),
+        name: None,
+        service: id(service),
+        https: true,
+        methods: List::new(alloc),
+        hosts: List::new(alloc),
+        paths,
+        headers: List::new(alloc),
+        regex_priority: 0,
+        strip_path: true,
+        preserve_host: false,
+        created_at: 0,
+        updated_at: 0,
+    }))
+}
+
+#[test]
+fn service_with_a_route_is_not_deleted(rt: HostRuntime) -> Result<(), Fail> {
+    let alloc = rt.alloc();
+    let mut rows = Rows::new(alloc);
+    let delete = Command::Delete {
+        kind: Kind::Service,
+        id: id(1),
+    };
+    done(alloc, &mut rows, &Command::Insert(service(alloc, 1, 7)?))?;
+    assert!(rt; allowed(&rows, &delete, 2));
+    done(alloc, &mut rows, &Command::Insert(route(alloc, 2, 1)?))?;
+    assert!(rt; !allowed(&rows, &delete, 2));
     Ok(())
 }
 

@@ -1,7 +1,7 @@
 //! Rows that stand under another row.
 
 ghost use Rattle.std.specs.Prelude.{◌≡◌, ℕ, ◌==◌, ◌&&◌, Bool, false, List as Sequence, IfOk, filter, find, option_map};
-ghost use Rattle.std.specs.Option.{option_copied};
+ghost use Rattle.std.specs.Option.{option_copied, option_to_list};
 ghost use Rattle.std.specs.Str.{bytes_eq};
 ghost use Rattle.kg_entities.specs.Lookups.{is_text};
 ghost use Rattle.kg_entities.specs.RowChanges.{names_row};
@@ -13,7 +13,9 @@ use crate::find::{
     acl_row, basic_cred_row, consumer_row, key_cred_row, plugin_row, route_row, service_row,
 };
 use crate::select::Select;
-use kg_entities::{AclRow, BasicCred, Entity, Id, KeyCred, Kind, PluginRow, Route, Row, Rows};
+use kg_entities::{
+    AclRow, BasicCred, Entity, Id, KeyCred, Kind, PluginRow, Route, Row, RowTable, Rows,
+};
 use kg_text::{NoMemory, Text};
 use std::alloc::Global;
 
@@ -157,22 +159,22 @@ fn row_with_id(
 {
     match kind {
         Kind::Service => service_row(alloc, rows.services().get(id)),
-        Kind::Route => route_row(alloc, with_id(rows.routes().as_slice(), upper, above, id)),
+        Kind::Route => route_row(alloc, with_id(rows.routes(), upper, above, id)),
         Kind::Consumer => consumer_row(alloc, rows.consumers().get(id)),
         Kind::KeyCred => {
             key_cred_row(
                 alloc,
-                with_id(rows.key_creds().as_slice(), upper, above, id),
+                with_id(rows.key_creds(), upper, above, id),
             )
         }
         Kind::BasicCred => {
             basic_cred_row(
                 alloc,
-                with_id(rows.basic_creds().as_slice(), upper, above, id),
+                with_id(rows.basic_creds(), upper, above, id),
             )
         }
-        Kind::Acl => acl_row(alloc, with_id(rows.acls().as_slice(), upper, above, id)),
-        Kind::Plugin => plugin_row(alloc, with_id(rows.plugins().as_slice(), upper, above, id)),
+        Kind::Acl => acl_row(alloc, with_id(rows.acls(), upper, above, id)),
+        Kind::Plugin => plugin_row(alloc, with_id(rows.plugins(), upper, above, id)),
     }
 }
 
@@ -188,18 +190,10 @@ fn row_with_word(
 {
     match kind {
         Kind::Service => service_row(alloc, rows.service_named(text)),
-        Kind::Route => route_row(
-            alloc,
-            with_word(rows.routes().as_slice(), upper, above, text),
-        ),
+        Kind::Route => route_row(alloc, named_route(rows, upper, above, text)),
         Kind::Consumer => consumer_row(alloc, rows.consumer_with_username(text)),
         Kind::KeyCred => key_cred_row(alloc, key_cred_of_word(rows, upper, above, text)),
-        Kind::BasicCred => {
-            basic_cred_row(
-                alloc,
-                with_word(rows.basic_creds().as_slice(), upper, above, text),
-            )
-        }
+        Kind::BasicCred => basic_cred_row(alloc, cred_with_username(rows, upper, above, text)),
         Kind::Acl => acl_row(alloc, with_word(rows.acls().as_slice(), upper, above, text)),
         Kind::Plugin => Ok(None),
     }
@@ -214,30 +208,86 @@ fn key_cred_of_word<'r>(rows: &'r Rows, upper: Kind, above: Id, text: &Text) -> 
             return Some(found);
         }
     }
-    with_word(rows.key_creds().as_slice(), upper, above, text)
+    cred_with_key(rows, upper, above, text)
+}
+
+// The first row with a word among those under a row. All rows are searched only where the first of all
+// that have the word stands under another.
+fn named_route<'r>(rows: &'r Rows, upper: Kind, above: Id, text: &Text) -> Option<&'r Route>
+    ensures { option_copied result ≡ find (λ row. is_text text.now row.name) (filter (is_route_under upper above) rows.now.routes) }
+{
+    match rows.route_named(text) {
+        Some(row) => {
+            if row.is_below(upper, above) {
+                return Some(row);
+            }
+            with_word(rows.routes().as_slice(), upper, above, text)
+        }
+        None => None,
+    }
+}
+
+fn cred_with_key<'r>(rows: &'r Rows, upper: Kind, above: Id, text: &Text) -> Option<&'r KeyCred>
+    ensures { option_copied result ≡ find (λ row. bytes_eq row.key text.now) (filter (λ row. is_owned_under upper above row.consumer) rows.now.key_creds) }
+{
+    match rows.cred_with_key(text) {
+        Some(row) => {
+            if row.is_below(upper, above) {
+                return Some(row);
+            }
+            with_word(rows.key_creds().as_slice(), upper, above, text)
+        }
+        None => None,
+    }
+}
+
+fn cred_with_username<'r>(
+    rows: &'r Rows,
+    upper: Kind,
+    above: Id,
+    text: &Text,
+) -> Option<&'r BasicCred>
+    ensures { option_copied result ≡ find (λ row. bytes_eq row.username text.now) (filter (λ row. is_owned_under upper above row.consumer) rows.now.basic_creds) }
+{
+    match rows.cred_with_username(text) {
+        Some(row) => {
+            if row.is_below(upper, above) {
+                return Some(row);
+            }
+            with_word(rows.basic_creds().as_slice(), upper, above, text)
+        }
+        None => None,
+    }
 }
 
 fn key_cred_with_id(rows: &Rows, upper: Kind, above: Id, id: Id) -> Option<&KeyCred>
     ensures { option_copied result ≡ find (λ row. row.id == id) (filter (λ row. is_owned_under upper above row.consumer) rows.now.key_creds) }
 {
-    with_id(rows.key_creds().as_slice(), upper, above, id)
+    with_id(rows.key_creds(), upper, above, id)
 }
 
-// The row with this id among those under a row.
-fn with_id<T: Below>(rows: &[T], upper: Kind, above: Id, id: Id) -> Option<&T>
+// The row with this id, where it stands under a row.
+fn with_id<T: Below>(rows: &RowTable<T>, upper: Kind, above: Id, id: Id) -> Option<&T>
     ensures { option_copied result ≡ find (λ row. T.number row == id) (filter (T.below upper above) rows.now) }
 {
-    below_with_id(rows, upper, above, id)
+    if_below(rows.get(id), upper, above)
 }
 
-fn below_with_id<T: Below>(rows: &[T], upper: Kind, above: Id, id: Id) -> Option<&T>
-    ensures { option_copied result ≡ find (λ row. T.below upper above row && T.number row == id) rows.now }
+fn if_below<T: Below>(found: Option<&T>, upper: Kind, above: Id) -> Option<&T>
+    ensures { option_copied result ≡ find (T.below upper above) (option_to_list (option_copied found)) }
 {
-    rows.iter()
-        .find(|row| row.is_below(upper, above) && row.id() == id)
+    match found {
+        Some(row) => {
+            if row.is_below(upper, above) {
+                return Some(row);
+            }
+            None
+        }
+        None => None,
+    }
 }
 
-// The first row with this word among those under a row.
+// The first row with this word among those under a row, by a search of all rows.
 fn with_word<'r, T: Below>(rows: &'r [T], upper: Kind, above: Id, text: &Text) -> Option<&'r T>
     ensures { option_copied result ≡ find (T.worded text.now) (filter (T.below upper above) rows.now) }
 {

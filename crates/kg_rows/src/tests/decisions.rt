@@ -144,6 +144,64 @@ fn a_taken_name_is_refused_before_a_full_kind(rt: HostRuntime) -> Result<(), Fai
     Ok(())
 }
 
+// What is told of a refusal.
+fn told(decided: Result<Command, DecideError>) -> &'static str {
+    match decided {
+        Ok(_) => "allowed",
+        Err(DecideError::NoMemory) => "no memory",
+        Err(DecideError::Refused(Refusal::NotFound)) => "not found",
+        Err(DecideError::Refused(Refusal::Violation(_))) => "violation",
+        Err(DecideError::Refused(Refusal::Foreign { .. })) => "foreign",
+        Err(DecideError::Refused(Refusal::Unique { .. })) => "unique",
+        Err(DecideError::Refused(Refusal::Full)) => "full",
+        Err(DecideError::Refused(Refusal::HistoryFull)) => "history full",
+    }
+}
+
+// A route under the service of this name.
+fn post_route(alloc: Global, service: &str, body: &str) -> Result<Draft, Fail> {
+    Ok(Draft::Insert {
+        kind: Kind::Route,
+        parent: Some(Parent {
+            kind: Kind::Service,
+            select: Select::Word(text(alloc, service)?),
+        }),
+        form: form(alloc, Kind::Route, body)?,
+        id: id(9),
+        now: 0,
+    })
+}
+
+#[test]
+fn refusals_come_in_their_order(rt: HostRuntime) -> Result<(), Fail> {
+    let alloc = rt.alloc();
+    let mut rows = with_service(alloc)?;
+    add(
+        alloc,
+        &mut rows,
+        Kind::Route,
+        r#"{"service":"a","name":"r","paths":["/x"]}"#,
+        2,
+    )?;
+    for (service, body, wanted) in [
+        ("b", r#"{"name":"r"}"#, "not found"),
+        ("a", r#"{"name":"r"}"#, "violation"),
+        ("a", r#"{"name":"r","paths":["/y"]}"#, "unique"),
+        ("a", r#"{"name":"s","paths":["/y"]}"#, "full"),
+    ] {
+        let draft = post_route(alloc, service, body)?;
+        assert_eq!(rt; told(decide(alloc, &rows, &draft, 1)), wanted, "{body}");
+    }
+    let lost = post(
+        alloc,
+        Kind::Route,
+        r#"{"service":"b","name":"r","paths":["/y"]}"#,
+        9,
+    )?;
+    assert_eq!(rt; told(decide(alloc, &rows, &lost, 1)), "foreign");
+    Ok(())
+}
+
 #[test]
 fn a_service_that_a_route_names_stays(rt: HostRuntime) -> Result<(), Fail> {
     let alloc = rt.alloc();

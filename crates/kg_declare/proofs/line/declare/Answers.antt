@@ -1,43 +1,59 @@
-use Rattle.std.proofs.Common.{[], ◌++◌, length, refl, ◌∙◌}
+use Rattle.std.proofs.Common.{[], ◌++◌, All, Ok, length, refl, ap, subst, ◌∙◌}
 use Rattle.kg_declare.specs.Outcome.{outcome, with_rows}
+use Rattle.kg_declare.specs.Rows.{Stands}
 use Rattle.kg_declare.specs.SeenRows.{seen_all}
 use Rattle.kg_declare.specs.Steps.{progress_at}
-use Rattle.kg_declare.proofs.ProgressLemmas.{faultless_inserted, from_start, refused_later}
+use Rattle.kg_declare.proofs.ProgressLemmas.{at_commands, faultless_inserted, from_start, refused_later}
+use Rattle.kg_declare.proofs.StandLemmas.{rows_stand}
 use Rattle.kg_declare.proofs.line.declare.Goals as goal
 
-pub returns-in-Err : goal.returns-in-Err
-returns-in-Err g c = record {
+pub insert_rows-requires : goal.insert_rows-requires
+insert_rows-requires g c = subst (All Stands) c.in-Ok.ensures.ok.rows (rows_stand c.in-Ok.ensures.ok.members)
+
+pub returns-in-Err-clause-outcome : goal.returns-in-Err-clause-outcome
+returns-in-Err-clause-outcome g c = record {
   drawn = [];
   moved = g.met.I.Ids.draws_none c.args.ids.now;
-  answers = c.in-Err.ensures.err [] c.args.now c.args.limit;
+  answers = λ more. c.in-Err.ensures.err more c.args.now c.args.limit;
 }
 
-pub returns-in-Ok-insert_rows : goal.returns-in-Ok-insert_rows
-returns-in-Ok-insert_rows g c =
-    let drawn = c.in-Ok-insert_rows.ensures.drawn in
+pub returns-in-Ok-insert_rows-clause-outcome : goal.returns-in-Ok-insert_rows-clause-outcome
+returns-in-Ok-insert_rows-clause-outcome g c =
+    let drawn = c.in-Ok-insert_rows.ensures.steps.drawn in
     let rows = seen_all c.in-Ok.rows.items in
     record {
       drawn = drawn;
-      moved = c.in-Ok-insert_rows.ensures.moved;
-      answers = (
-        progress_at c.insert_rows.new.made (length drawn),
-        faultless_inserted c.args.line.now rows c.args.now c.args.limit drawn c.in-Ok.ensures.ok
-            ∙ from_start drawn c.args.now c.args.limit rows c.new-made.result _ c.new-made.ensures (c.in-Ok-insert_rows.ensures.leaves []),
-        refl,
-        refl,
-      );
+      moved = c.in-Ok-insert_rows.ensures.steps.moved;
+      answers = λ more.
+          faultless_inserted c.args.line.now rows c.args.now c.args.limit (drawn ++ more) c.in-Ok.ensures.ok
+          ∙ from_start (drawn ++ more) c.args.now c.args.limit rows c.new-made.result _ c.new-made.ensures.start (c.in-Ok-insert_rows.ensures.steps.leaves more)
+          ∙ ap Ok (at_commands c.args.limit c.insert_rows.new.made (length drawn) (c.in-Ok-insert_rows.ensures.consistent (c.new-made.ensures.consistent c.args.limit)));
     }
 
-pub returns-in-Err-insert_rows : goal.returns-in-Err-insert_rows
-returns-in-Err-insert_rows g c =
-    let drawn = c.in-Err-insert_rows.ensures.drawn in
+pub returns-in-Ok-insert_rows-clause-commands : goal.returns-in-Ok-insert_rows-clause-commands
+returns-in-Ok-insert_rows-clause-commands g c =
+    let is = c.in-Ok-insert_rows.ensures.consistent (c.new-made.ensures.consistent c.args.limit) in
+    let law = c.allowed_commands_make_valid_rows.ensures in
+    let commands = c.insert_rows.new.made.commands in
+    record {
+      inserts = is.inserts;
+      allowed = is.allowed;
+      valid = law.valid commands c.args.limit is.allowed;
+      distinct = law.distinct commands c.args.limit is.allowed;
+      references = law.references commands c.args.limit is.allowed;
+    }
+
+pub returns-in-Err-insert_rows-clause-outcome : goal.returns-in-Err-insert_rows-clause-outcome
+returns-in-Err-insert_rows-clause-outcome g c =
+    let drawn = c.in-Err-insert_rows.ensures.steps.drawn in
     let rows = seen_all c.in-Ok.rows.items in
     record {
       drawn = drawn;
-      moved = c.in-Err-insert_rows.ensures.moved;
-      answers = refused_later c.in-Err-insert_rows.e (with_rows (drawn ++ []) c.args.now c.args.limit rows (progress_at c.new-made.result 0))
-          (outcome c.args.line.now c.args.now c.args.limit drawn) (length drawn) (length drawn) refl
-          (λ refused is. faultless_inserted c.args.line.now rows c.args.now c.args.limit drawn c.in-Ok.ensures.ok
-          ∙ from_start drawn c.args.now c.args.limit rows c.new-made.result _ c.new-made.ensures is)
-          (c.in-Err-insert_rows.ensures.leaves []);
+      moved = c.in-Err-insert_rows.ensures.steps.moved;
+      answers = λ more.
+          refused_later c.in-Err-insert_rows.e (with_rows (drawn ++ more) c.args.now c.args.limit rows (progress_at c.new-made.result 0))
+          (outcome c.args.line.now c.args.now c.args.limit (drawn ++ more)) (length drawn) (length drawn) refl
+          (λ refused is. faultless_inserted c.args.line.now rows c.args.now c.args.limit (drawn ++ more) c.in-Ok.ensures.ok
+          ∙ from_start (drawn ++ more) c.args.now c.args.limit rows c.new-made.result _ c.new-made.ensures.start is)
+          (c.in-Err-insert_rows.ensures.steps.leaves more);
     }

@@ -2,15 +2,22 @@ use Rattle.std.proofs.Common.{◌≡◌, ◌+◌, [], ◌++◌, length, ◌∙�
 use Rattle.serde_json.specs.Data.{object}
 use Rattle.serde_json.specs.View.{members_view}
 use Rattle.kg_schema.specs.Settings.{id_at}
-use Rattle.kg_rows.specs.Decision.{insertion}
+use Rattle.kg_rows.specs.Decision.{CanStandUnder, insertion}
 use Rattle.kg_declare.specs.Outcome.{decided, with_row}
 use Rattle.kg_declare.specs.SeenRows.{seen}
 use Rattle.kg_declare.specs.Steps.{IsIdOf, IsRefusedAt, Leaves, progress_at}
 use Rattle.kg_declare.proofs.ProgressLemmas.{nothing_more, row_refused, row_step}
+use Rattle.kg_declare.proofs.StandLemmas.{can_stand}
 use Rattle.kg_declare.proofs.progress.insert_row.Goals as goal
 
-pub returns-in-Ok : goal.returns-in-Ok
-returns-in-Ok g c =
+pub insert-requires-proper : goal.insert-requires-proper
+insert-requires-proper g c = (
+  c.in-Ok.ensures.kind,
+  subst (λ parent. CanStandUnder c.args.row.kind parent) (sym c.parent_of-parent.ensures) (can_stand c.args.made.now.rows (seen c.args.row) c.requires),
+)
+
+pub returns-in-Ok-clause-steps : goal.returns-in-Ok-clause-steps
+returns-in-Ok-clause-steps g c =
     let drawn = c.id_of-id.ensures.drawn in
     let row = seen c.args.row in
     record {
@@ -24,11 +31,11 @@ returns-in-Ok g c =
           (subst (λ body. IsIdOf (id_at body) drawn c.id_of-id.result) c.in-Ok.ensures.body c.id_of-id.ensures.is)))
           (subst (λ body. Leaves c.insert.result (decided (progress_at c.args.made.now (length front)) (length front + length drawn)
           (insertion c.args.made.now.rows row.kind c.parent_of-parent.result body c.id_of-id.result c.args.now c.args.limit)) c.insert.new.made (length front + length drawn))
-          c.in-Ok.ensures.body (c.insert.ensures (length front) (length front + length drawn)));
+          c.in-Ok.ensures.body (c.insert.ensures.leaves (length front) (length front + length drawn)));
     }
 
-pub returns-in-Err : goal.returns-in-Err
-returns-in-Err g c = record {
+pub returns-in-Err-clause-steps : goal.returns-in-Err-clause-steps
+returns-in-Err-clause-steps g c = record {
   drawn = [];
   moved = g.met.I.Ids.draws_none c.args.ids.now;
   leaves = λ front more.

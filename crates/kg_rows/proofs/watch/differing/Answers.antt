@@ -1,4 +1,4 @@
-use Rattle.std.proofs.Common.{◌≡◌, ◌∷◌, length, ap, arith}
+use Rattle.std.proofs.Common.{◌≡◌, ◌∷◌, [], length, ap, arith, length-append}
 use Rattle.kg_rows.specs.Watching.{IsOrderly}
 use Rattle.kg_rows.proofs.Differs.{differ_more, all_front, all_last}
 use Rattle.kg_rows.proofs.watch.differing.Goals as goal
@@ -14,9 +14,10 @@ pub loop-w-preserved : goal.loop-w-preserved
 loop-w-preserved c =
     let e : c.loop-w.w-iterator.rest.items ≡ c.in-Some.w ∷ c.next.new.self.rest.items = c.in-Some.ensures.steps.0 in
     record {
-      room = omega (arith, c.loop-w.invariant.room, c.note.ensures.room, c.note.ensures.len, ap length e);
+      room = omega (arith, c.loop-w.invariant.room, c.note.ensures.room, ap length e);
       differ = λ orderly.
-          differ_more c.args.rows.now c.loop-w.yielded c.in-Some.w c.loop-w.keys.items c.note.new.keys.items
+          differ_more c.args.rows.now c.loop-w.yielded c.in-Some.w c.loop-w.keys.keys c.note.new.keys.keys
           (c.loop-w.invariant.differ (all_front (λ w. IsOrderly w.before) c.loop-w.yielded c.in-Some.w orderly))
           (c.note.ensures.noted (all_last (λ w. IsOrderly w.before) c.loop-w.yielded c.in-Some.w orderly));
+      len = omega (arith, c.loop-w.invariant.len, c.note.ensures.len, length-append c.loop-w.yielded (c.in-Some.w ∷ []));
     }
