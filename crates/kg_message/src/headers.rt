@@ -41,11 +41,20 @@ impl Headers {
         }
     }
 
+    /// No fields, with memory for so many.
+    pub fn with_capacity(alloc: Global, count: usize) -> Result<Headers, NoMemory>
+        ensures { IfOk result (λ headers. headers ≡ []) }
+    {
+        Ok(Headers {
+            fields: Vec::with_capacity(alloc, count)?,
+        })
+    }
+
     /// One field, which tells the type of a body.
     pub fn content_type(alloc: Global, value: &[u8]) -> Result<Headers, NoMemory>
         ensures { IfOk result (λ headers. headers ≡ content_type value.now ∷ []) }
     {
-        let mut headers = Headers::new(alloc);
+        let mut headers = Headers::with_capacity(alloc, 1)?;
         headers.add(
             alloc,
             Name::of_token(alloc, b"content-type")?,
@@ -293,7 +302,7 @@ impl PartialEq for Headers {
 
 impl TryClone for Headers {
     fn try_clone(&self, alloc: Global) -> Result<Headers, NoMemory> {
-        let mut copy = Headers::new(alloc);
+        let mut copy = Headers::with_capacity(alloc, self.len())?;
         for field in self.as_slice() {
             copy.add(
                 alloc,

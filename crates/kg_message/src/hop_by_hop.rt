@@ -26,7 +26,7 @@ const CONNECTION_NAMES: [&str; 7] = [
 pub fn end_to_end(alloc: Global, headers: &Headers) -> Result<Headers, NoMemory>
     ensures { IfOk result (λ kept. kept ≡ end_to_end headers.now) }
 {
-    let mut kept = Headers::new(alloc);
+    let mut kept = Headers::with_capacity(alloc, headers.len())?;
     for field in headers.as_slice() {
         if passes(headers, field) {
             kept.add(

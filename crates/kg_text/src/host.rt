@@ -8,14 +8,14 @@ ghost use Rattle.kg_text.specs.Hosts.{host_part, host_of, is_host_byte, is_host}
 
 use crate::bytes::Bytes;
 use crate::error::NoMemory;
-use std::alloc::{AllocError, Global};
+use std::alloc::Global;
 
 /// The host that the value of a Host field tells: without a last colon and the digits behind it,
 /// and with ASCII letters in lower case.
 pub fn host_of(alloc: Global, value: &[u8]) -> Result<Bytes, NoMemory>
     ensures { IfOk result (λ host. host ≡ host_of value.now) }
 {
-    Ok(Bytes::from_vec(lower_case(alloc, host_part(value))?))
+    Ok(Bytes::from_vec(host_part(value).to_ascii_lowercase(alloc)?))
 }
 
 /// The value of a Host field without a last colon and the digits behind it, as it came.
@@ -59,10 +59,4 @@ fn is_host_byte(b: u8) -> bool
     ensures { result ≡ is_host_byte b }
 {
     b.is_ascii_alphanumeric() || b".-_".contains(&b)
-}
-
-fn lower_case(alloc: Global, raw: &[u8]) -> Result<Vec<u8>, AllocError>
-    ensures { IfOk result (λ v. v.items ≡ str_to_ascii_lowercase raw.now) }
-{
-    raw.iter().map(|b| b.to_ascii_lowercase()).collect(alloc)
 }

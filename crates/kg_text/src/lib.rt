@@ -26,7 +26,7 @@ pub use crate::host::{host_of, host_part, is_host};
 pub use crate::list::List;
 pub use crate::name::Name;
 pub use crate::pair::Pair;
-pub use crate::path::{is_normal, is_path, normalise};
+pub use crate::path::{into_normal_form, is_normal, is_path, normalise};
 pub use crate::query::{query_pairs, query_text};
 pub use crate::text::Text;
 

@@ -9,7 +9,7 @@ ghost use Rattle.kg_text.specs.Names.{is_tchar, is_token, name_of};
 ghost use Rattle.kg_text.specs.Reading.{Gives};
 
 use crate::error::{NoMemory, TextError};
-use std::alloc::{AllocError, Global};
+use std::alloc::Global;
 use std::marker::Model;
 use std::str;
 
@@ -48,7 +48,7 @@ impl Name {
         ensures { IfOk result (λ name. name ≡ str_to_ascii_lowercase raw.now) }
     {
         Ok(Name {
-            raw: lower_case(alloc, raw)?,
+            raw: raw.to_ascii_lowercase(alloc)?,
         })
     }
 
@@ -112,12 +112,6 @@ fn is_tchar(b: u8) -> bool
     ensures { result ≡ is_tchar b }
 {
     b.is_ascii_alphanumeric() || b"!#$%&'*+-.^_`|~".contains(&b)
-}
-
-fn lower_case(alloc: Global, raw: &[u8]) -> Result<Vec<u8>, AllocError>
-    ensures { IfOk result (λ v. v.items ≡ str_to_ascii_lowercase raw.now) }
-{
-    raw.iter().map(|b| b.to_ascii_lowercase()).collect(alloc)
 }
 
 fn is_lower_case_of(lower: &[u8], raw: &[u8]) -> bool

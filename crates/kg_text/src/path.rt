@@ -5,7 +5,8 @@ ghost use Rattle.std.specs.List.{list_all, prefix_len};
 ghost use Rattle.kg_text.specs.Paths.{slash, is_path_byte, is_path, path_len, normal_escapes, without_dots, normal_form};
 ghost use Rattle.kg_text.specs.Reading.{Gives};
 
-use crate::error::TextError;
+use crate::bytes::Bytes;
+use crate::error::{NoMemory, TextError};
 use crate::escape::{has_normal_escapes, with_normal_escapes};
 use crate::segment::{is_dot_free, without_dots};
 use crate::text::Text;
@@ -30,11 +31,38 @@ pub fn normalise(alloc: Global, path: &[u8]) -> Result<Text, TextError>
     Ok(text_of(rewritten(alloc, path)?))
 }
 
+/// The normal form of bytes that are known to be a path. A path that is its own normal form isn't copied.
+pub fn into_normal_form(alloc: Global, path: Bytes) -> Result<Text, NoMemory>
+    requires { IsTrue (is_path path) }
+    ensures { IfOk result (λ text. normal_form path ≡ Ok text) }
+{
+    if is_same_form(path.as_slice()) {
+        return Ok(text_of(path.into_vec()));
+    }
+    Ok(changed_form(alloc, path.as_slice())?)
+}
+
 /// Is this a path, and its own normal form? It takes no memory.
 pub fn is_normal(path: &[u8]) -> bool
     ensures { IsTrue result ↔ (normal_form path.now ≡ Ok path.now) }
 {
-    is_path(path) && has_normal_escapes(path) && is_dot_free(path)
+    is_path(path) && is_same_form(path)
+}
+
+// Is a path its own normal form?
+fn is_same_form(path: &[u8]) -> bool
+    requires { IsTrue (is_path path.now) }
+    ensures { IsTrue result ↔ (normal_form path.now ≡ Ok path.now) }
+{
+    has_normal_escapes(path) && is_dot_free(path)
+}
+
+// The normal form of a path that may be another.
+fn changed_form(alloc: Global, path: &[u8]) -> Result<Text, AllocError>
+    requires { IsTrue (is_path path.now) }
+    ensures { IfOk result (λ text. normal_form path.now ≡ Ok text) }
+{
+    Ok(text_of(rewritten(alloc, path)?))
 }
 
 /// Does the text begin with `/`, and are its further bytes 0x21 to 0x7E without `?` and `#`?

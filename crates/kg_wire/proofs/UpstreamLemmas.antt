@@ -44,6 +44,24 @@ unfolding forwarded_for
 joined_values fields address =
     ap (λ front. front ++ address) (values fields) ∙ sym (joined (codes ", ") address (values_named (codes "x-forwarded-for") fields))
 
+-- a field written part by part: its name with the colon and the space, its value, and the line's end
+pub field_in_parts : (out start value one two three : List ℕ) (name : List ℕ) → start ≡ name ++ codes ": "
+    → one ≡ out ++ start → two ≡ one ++ value → three ≡ two ++ line_end
+    → three ≡ out ++ field_line (record { name = name; value = value })
+unfolding field_line
+field_in_parts out start value one two three name start_is at_one at_two at_three =
+    rw (at_three, at_two, at_one, start_is) (simp append_assoc)
+
+-- the field with the client's values of x-forwarded-for and an address behind them
+pub forwarded_in_parts : (out address one two three four : List ℕ) (fields : List Header)
+    → one ≡ out ++ codes "x-forwarded-for: " → two ≡ one ++ flat_map forwarded_value fields → three ≡ two ++ address → four ≡ three ++ line_end
+    → four ≡ out ++ field_line (record { name = codes "x-forwarded-for"; value = forwarded_for fields address })
+forwarded_in_parts out address one two three four fields at_one at_two at_three at_four =
+    let value : three ≡ one ++ forwarded_for fields address =
+    at_three ∙ ap (λ front. front ++ address) at_two ∙ append_assoc one (flat_map forwarded_value fields) address
+    ∙ ap (λ value. one ++ value) (joined_values fields address) in
+    field_in_parts out (codes "x-forwarded-for: ") (forwarded_for fields address) one three four (codes "x-forwarded-for") refl at_one value at_four
+
 -- four lines written one after another
 pub four_lines : (out one two three four : List ℕ) (first second third fourth : Header)
     → one ≡ out ++ field_line first → two ≡ one ++ field_line second → three ≡ two ++ field_line third → four ≡ three ++ field_line fourth

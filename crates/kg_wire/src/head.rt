@@ -2,16 +2,16 @@
 
 ghost use Rattle.std.specs.Prelude.{◌≡◌, IsTrue, IfOk, Ok, take, map};
 ghost use Rattle.httparse.specs.Spans.{IsRequestWithin, header_bytes};
-ghost use Rattle.kg_text.specs.Paths.{is_path, normal_form};
+ghost use Rattle.kg_text.specs.Paths.{normal_form};
 ghost use Rattle.kg_wire.specs.Messages.{header_of, request_with};
 ghost use Rattle.kg_wire.specs.Reading.{HaveTokens, head_at};
-ghost use Rattle.kg_wire.specs.Targets.{is_target};
+ghost use Rattle.kg_wire.specs.Targets.{is_target, target_path};
 
 use crate::checks::is_framed;
-use crate::target::{target_path, target_query};
+use crate::target::{path_len, target_query};
 use httparse::spans::{HeaderSpan, RequestSpans};
 use kg_message::{Headers, Request};
-use kg_text::{Bytes, Name, NoMemory, Text, TextError, normalise};
+use kg_text::{Bytes, Name, NoMemory, Text, into_normal_form};
 use std::alloc::Global;
 
 /// The head of a request, copied out of the bytes that were read. Nothing of it was checked yet but
@@ -54,7 +54,7 @@ fn copy_headers(
     requires names { HaveTokens held.now (take spans.now.headers room.now) }
     ensures { IfOk result (λ headers. headers ≡ map header_of (map (header_bytes held.now) (take spans.now.headers room.now))) }
 {
-    let mut headers = Headers::new(alloc);
+    let mut headers = Headers::with_capacity(alloc, spans.headers)?;
     let fields = room.split_at(spans.headers).0;
     for field in fields {
         let name = Name::of_token(alloc, field.name.of(held))?;
@@ -74,7 +74,7 @@ pub fn make_request(
     requires { IsTrue (is_target head.target) }
     ensures { IfOk result (λ request. request ≡ request_with address head body) }
 {
-    let path = normal_path(alloc, target_path(head.target.as_slice()))?;
+    let framed = is_framed(&head);
     let query = match target_query(head.target.as_slice()) {
         Some(query) => Some(Bytes::from_slice(alloc, query)?),
         None => None,
@@ -83,10 +83,9 @@ pub fn make_request(
         Some(host) => Bytes::from_slice(alloc, host)?,
         None => Bytes::new(alloc),
     };
-    let framed = is_framed(&head);
     Ok(Request {
         method: head.method,
-        path,
+        path: path_of(alloc, head.target)?,
         query,
         minor: head.minor,
         host,
@@ -97,13 +96,20 @@ pub fn make_request(
     })
 }
 
-fn normal_path(alloc: Global, path: &[u8]) -> Result<Text, NoMemory>
-    requires { IsTrue (is_path path.now) }
-    ensures { IfOk result (λ text. normal_form path.now ≡ Ok text) }
+// The normal form of a target's path. A path that is its own normal form isn't copied.
+fn path_of(alloc: Global, target: Bytes) -> Result<Text, NoMemory>
+    requires { IsTrue (is_target target) }
+    ensures { IfOk result (λ text. normal_form (target_path target) ≡ Ok text) }
 {
-    match normalise(alloc, path) {
-        Ok(text) => Ok(text),
-        Err(TextError::Bad { at: _ }) => unreachable!(),
-        Err(TextError::NoMemory) => Err(NoMemory),
-    }
+    into_normal_form(alloc, cut_path(target))
+}
+
+// What stands before the first `?`.
+fn cut_path(target: Bytes) -> Bytes
+    ensures { result ≡ target_path target }
+{
+    let len = path_len(target.as_slice());
+    let mut path = target.into_vec();
+    path.truncate(len);
+    Bytes::from_vec(path)
 }

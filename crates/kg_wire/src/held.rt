@@ -1,6 +1,6 @@
 //! Bytes that were read and not yet taken.
 
-ghost use Rattle.std.specs.Prelude.{◌≡◌, ◌≤◌, [], IfOk, OnOk, OnErr, IsErrOf, length, drop};
+ghost use Rattle.std.specs.Prelude.{◌≡◌, ◌≤◌, ◌<◌, ◌+◌, ◌-◌, ℕ, [], IfOk, OnOk, OnErr, IsErrOf, length, take, drop, slice_range};
 ghost use Rattle.kg_wire.specs.declared.held.FillError.{FillError as Failure};
 ghost use Rattle.kg_wire.specs.declared.held.FillError.TheVariants.{Fault, NoMemory as OutOfMemory};
 ghost use Rattle.kg_wire.specs.Reading.{Fills};
@@ -10,8 +10,11 @@ use kg_outside::{Failed, Source};
 use std::alloc::{AllocError, Global};
 use std::marker::Model;
 
-// How many bytes a read asks for.
+// By how many bytes the room grows.
 const PIECE: usize = 16 * 1024;
+
+// How many bytes a read asks for at least.
+const LEAST_ROOM: usize = 4 * 1024;
 
 /// Why no more bytes could be had.
 #[derive(Clone, Copy, Debug, PartialEq, Eq, Hash)]
@@ -41,19 +44,20 @@ impl From<Failed> for FillError {
 /// The bytes of a stream that were read and not yet taken.
 #[derive(Debug, Drop)]
 pub struct Held {
+    // The bytes held stand from `start` up to `end`. Behind them is room for the next read.
     bytes: Vec<u8>,
-    // How many of the bytes were taken.
     start: usize,
+    end: usize,
 }
 
 impl Model for Held {
-    ghost use Rattle.std.specs.Prelude.{List, ℕ, ◌≤◌, length, drop};
+    ghost use Rattle.std.specs.Prelude.{List, ℕ, ◌≤◌, length, slice_range};
 
     ghost Value = { List ℕ };
 
-    ghost view = { λ held. drop held.start held.bytes.items };
+    ghost view = { λ held. slice_range held.bytes.items held.start held.end };
 
-    ghost invariant = { λ held. held.start ≤ length held.bytes.items };
+    ghost invariant = { λ held. (held.start ≤ held.end) × (held.end ≤ length held.bytes.items) };
 }
 
 impl Held {
@@ -64,22 +68,25 @@ impl Held {
         Held {
             bytes: Vec::new(alloc),
             start: 0,
+            end: 0,
         }
     }
 
     pub fn as_slice(&self) -> &[u8]
         ensures { result.now ≡ self.now }
     {
-        self.bytes.as_slice().split_at(self.start).1
+        &self.bytes[self.start..self.end]
     }
 
     pub fn len(&self) -> usize
         ensures { result ≡ length self.now }
     {
-        self.bytes.len() - self.start
+        self.end - self.start
     }
 
-    /// Reads one piece behind the bytes, and answers how long it is. 0 is the end of the source.
+    /// Reads one piece behind the bytes, and answers how long it is. 0 is the end of the source. The
+    /// bytes held are moved to the front first, if others were taken before them: as these all come
+    /// before the next read, a stream is read in linear time.
     pub fn fill<S: Source>(&mut self, source: &mut S) -> Result<usize, FillError>
         ensures ok { IfOk result (Fills self.old self.new (S.left source.old) (S.left source.new)) }
         ensures err { OnErr result ((self.new ≡ self.old) × (S.left source.new ≡ S.left source.old)) }
@@ -87,52 +94,68 @@ impl Held {
         ensures beside { S.beside source.new ≡ S.beside source.old }
         ensures read { IsErrOf result Failure.Fault → Rose (S.faults source.old) (S.faults source.new) }
     {
-        append_piece(source, &mut self.bytes)
+        let len = self.len();
+        move_to_front(&mut self.bytes, self.start, self.end);
+        self.start = 0;
+        self.end = len;
+        let read = read_behind(source, &mut self.bytes, len)?;
+        self.end = len + read;
+        Ok(read)
     }
 
-    /// Takes the first `n` bytes off. It moves at most as many bytes as were taken since it last
-    /// moved some, so that a stream is read in linear time.
+    /// Takes the first `n` bytes off.
     pub fn take(&mut self, n: usize)
         requires { n ≤ length self.old }
         ensures { self.new ≡ drop n self.old }
     {
         self.start += n;
-        if self.bytes.len() - self.start <= self.start {
-            drop_front(&mut self.bytes, self.start);
-            self.start = 0;
-        }
     }
 }
 
-fn drop_front(bytes: &mut Vec<u8>, n: usize)
-    requires { n ≤ length bytes.old.items }
-    ensures { bytes.new.items ≡ drop n bytes.old.items }
+// Moves the bytes from `start` up to `end` to the front.
+fn move_to_front(bytes: &mut Vec<u8>, start: usize, end: usize)
+    requires { (start ≤ end) × (end ≤ length bytes.old.items) }
+    ensures len { length bytes.new.items ≡ length bytes.old.items }
+    ensures front { take (end - start) bytes.new.items ≡ slice_range bytes.old.items start end }
 {
-    bytes.drain(..n);
+    if start > 0 {
+        bytes.copy_within(start..end, 0);
+    }
 }
 
-// Reads straight into new room behind the bytes, and gives back what the read left of it.
-fn append_piece<S: Source>(source: &mut S, bytes: &mut Vec<u8>) -> Result<usize, FillError>
-    ensures ok { IfOk result (Fills bytes.old.items bytes.new.items (S.left source.old) (S.left source.new)) }
-    ensures err { OnErr result ((bytes.new.items ≡ bytes.old.items) × (S.left source.new ≡ S.left source.old)) }
+// Reads behind the first `len` bytes, where room is made for it.
+fn read_behind<S: Source>(
+    source: &mut S,
+    bytes: &mut Vec<u8>,
+    len: usize,
+) -> Result<usize, FillError>
+    requires { len ≤ length bytes.old.items }
+    ensures ok { IfOk result (λ n. Fills (take len bytes.old.items) (take (len + n) bytes.new.items) (S.left source.old) (S.left source.new) n) }
+    ensures within { IfOk result (λ n. len + n ≤ length bytes.new.items) }
+    ensures err { OnErr result ((take len bytes.new.items ≡ take len bytes.old.items) × (S.left source.new ≡ S.left source.old)) }
+    ensures long { len ≤ length bytes.new.items }
     ensures kept { OnOk result (S.faults source.new ≡ S.faults source.old) }
     ensures beside { S.beside source.new ≡ S.beside source.old }
     ensures read { IsErrOf result Failure.Fault → Rose (S.faults source.old) (S.faults source.new) }
 {
-    let len = bytes.len();
-    let Some(end) = len.checked_add(PIECE) else {
+    make_room(bytes, len)?;
+    Ok(source.read(bytes.as_mut_slice().split_at_mut(len).1)?)
+}
+
+// Makes room behind the first `len` bytes.
+fn make_room(bytes: &mut Vec<u8>, len: usize) -> Result<(), FillError>
+    requires { len ≤ length bytes.old.items }
+    ensures ok { OnOk result (len < length bytes.new.items) }
+    ensures front { take len bytes.new.items ≡ take len bytes.old.items }
+    ensures long { length bytes.old.items ≤ length bytes.new.items }
+    ensures err { IsErrOf result Failure.Fault → ⊥ }
+{
+    if bytes.len() - len >= LEAST_ROOM {
+        return Ok(());
+    }
+    let Some(size) = bytes.len().checked_add(PIECE) else {
         return Err(FillError::NoMemory);
     };
-    bytes.resize(end, 0)?;
-    let read = source.read(bytes.as_mut_slice().split_at_mut(len).1);
-    match read {
-        Ok(n) => {
-            bytes.truncate(len + n);
-            Ok(n)
-        }
-        Err(Failed) => {
-            bytes.truncate(len);
-            Err(FillError::Fault)
-        }
-    }
+    bytes.resize(size, 0)?;
+    Ok(())
 }

@@ -1,6 +1,6 @@
 //! The lines that all printed messages share.
 
-ghost use Rattle.std.specs.Prelude.{◌≡◌, [], ◌∷◌, ◌++◌, IfOk, OnOk, if◌then◌else◌};
+ghost use Rattle.std.specs.Prelude.{◌≡◌, [], ◌∷◌, ◌++◌, IfOk, OnOk, codes, if◌then◌else◌};
 ghost use Rattle.kg_wire.specs.FieldLines.{connection, content_length, field_line, field_lines, line_end, stated_length};
 
 use itoa::Buffer;
@@ -36,11 +36,20 @@ fn fields_len(headers: &Headers) -> usize {
     len
 }
 
-/// Writes the field that says what becomes of the connection.
-pub fn put_connection(out: &mut Bytes, word: &[u8]) -> Result<(), NoMemory>
-    ensures { OnOk result (out.new ≡ out.old ++ field_lines (connection word.now ∷ [])) }
+/// Writes the field that says that the connection ends.
+#[tactic(auto, unfolding(crate::specs::FieldLines::field_line))]
+pub fn put_close(out: &mut Bytes) -> Result<(), NoMemory>
+    ensures { OnOk result (out.new ≡ out.old ++ field_lines (connection (codes "close") ∷ [])) }
 {
-    put_field(out, b"connection", word)
+    out.extend_from_slice(b"connection: close\r\n")
+}
+
+/// Writes the field that says that the connection is kept.
+#[tactic(auto, unfolding(crate::specs::FieldLines::field_line))]
+pub fn put_alive(out: &mut Bytes) -> Result<(), NoMemory>
+    ensures { OnOk result (out.new ≡ out.old ++ field_lines (connection (codes "keep-alive") ∷ [])) }
+{
+    out.extend_from_slice(b"connection: keep-alive\r\n")
 }
 
 /// Ends the head, and writes the body where there is one.

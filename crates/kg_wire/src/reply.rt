@@ -5,7 +5,7 @@ ghost use Rattle.kg_wire.specs.FieldLines.{field_lines, line_end};
 ghost use Rattle.kg_wire.specs.ReplyText.{has_body, keeping_fields, phrase, reply_text};
 
 use crate::connection::Keeping;
-use crate::lines::{put_body, put_connection, put_fields, put_stated_length, room_for};
+use crate::lines::{put_alive, put_body, put_close, put_fields, put_stated_length, room_for};
 use http::StatusCode;
 use itoa::Buffer;
 use kg_message::Response;
@@ -64,7 +64,7 @@ fn put_keeping(out: &mut Bytes, keeping: Keeping) -> Result<(), NoMemory>
 {
     match keeping {
         Keeping::Silent => Ok(()),
-        Keeping::Close => put_connection(out, b"close"),
-        Keeping::Alive => put_connection(out, b"keep-alive"),
+        Keeping::Close => put_close(out),
+        Keeping::Alive => put_alive(out),
     }
 }

@@ -38,8 +38,8 @@ fn is_query(query: &[u8]) -> bool
     query.iter().all(|b| b.is_ascii_graphic() && *b != b'#')
 }
 
-// How many bytes stand before the first `?`.
-fn path_len(target: &[u8]) -> usize
+/// How many bytes stand before the first `?`.
+pub fn path_len(target: &[u8]) -> usize
     ensures value { result ≡ position_or_len is_question target.now }
     ensures within { result ≤ length target.now }
 {

@@ -1,16 +1,16 @@
 //! Printing an upstream message.
 
-ghost use Rattle.std.specs.Prelude.{◌≡◌, ◌++◌, IfOk, OnOk, codes, string_bytes};
+ghost use Rattle.std.specs.Prelude.{◌≡◌, ◌++◌, IfOk, OnOk, codes, decimal};
 ghost use Rattle.std.specs.List.{flat_map};
 ghost use Rattle.std.specs.Net.Text.{ipv4_text};
-ghost use Rattle.kg_wire.specs.FieldLines.{field_lines};
+ghost use Rattle.kg_wire.specs.FieldLines.{field_line, field_lines};
 ghost use Rattle.kg_wire.specs.UpstreamText.{client_fields, forwarded_fields, forwarded_for, forwarded_value, upstream_text};
 
-use crate::lines::{put_body, put_connection, put_field, put_fields, put_stated_length, room_for};
+use crate::lines::{put_body, put_close, put_field, put_fields, put_stated_length, room_for};
+use itoa::Buffer;
 use kg_message::{Header, Headers, Request};
 use kg_text::{Bytes, NoMemory};
-use std::alloc::{AllocError, Global};
-use std::net::Ipv4Addr;
+use std::alloc::Global;
 
 /// The message that is sent upstream, as bytes of HTTP/1.1: of `request` come the fields that tell of
 /// the client, and the body; `headers` are the further fields.
@@ -28,9 +28,9 @@ pub fn render_request(
     put_request_line(&mut out, method, target)?;
     put_field(&mut out, b"host", host)?;
     put_fields(&mut out, headers)?;
-    put_client_fields(alloc, &mut out, request)?;
+    put_client_fields(&mut out, request)?;
     put_stated_length(&mut out, request.framed, &request.body)?;
-    put_connection(&mut out, b"close")?;
+    put_close(&mut out)?;
     put_body(&mut out, true, &request.body)?;
     Ok(out)
 }
@@ -45,61 +45,53 @@ fn put_request_line(out: &mut Bytes, method: &[u8], target: &[u8]) -> Result<(),
 }
 
 // Writes the fields that tell of the client.
-fn put_client_fields(alloc: Global, out: &mut Bytes, request: &Request) -> Result<(), NoMemory>
+fn put_client_fields(out: &mut Bytes, request: &Request) -> Result<(), NoMemory>
     ensures { OnOk result (out.new ≡ out.old ++ field_lines (client_fields request.now)) }
 {
-    let address = dotted(alloc, request.address)?;
-    let forwarded_for = forwarded_for(alloc, &request.headers, address.as_bytes())?;
     put_forwarded(
         out,
-        forwarded_for.as_slice(),
+        &request.headers,
         request.host.as_slice(),
-        address.as_bytes(),
-    )?;
-    Ok(())
+        request.address,
+    )
 }
 
 fn put_forwarded(
     out: &mut Bytes,
-    forwarded_for: &[u8],
+    headers: &Headers,
     host: &[u8],
-    address: &[u8],
+    address: [u8; 4],
 ) -> Result<(), NoMemory>
-    ensures { OnOk result (out.new ≡ out.old ++ field_lines (forwarded_fields forwarded_for.now host.now address.now)) }
+    ensures { let text = ipv4_text address in
+        OnOk result (out.new ≡ out.old ++ field_lines (forwarded_fields (forwarded_for headers.now text) host.now text)) }
 {
-    put_field(out, b"x-forwarded-for", forwarded_for)?;
-    put_field(out, b"x-forwarded-proto", b"http")?;
+    put_forwarded_for(out, headers, address)?;
+    put_scheme(out)?;
     put_field(out, b"x-forwarded-host", host)?;
-    put_field(out, b"x-real-ip", address)?;
+    put_real_ip(out, address)?;
     Ok(())
 }
 
-// The address in dotted decimal.
-fn dotted(alloc: Global, address: [u8; 4]) -> Result<String, AllocError>
-    ensures { IfOk result (λ text. string_bytes text ≡ ipv4_text address) }
+// Writes the client's values of x-forwarded-for and then its address, joined by a comma and a space.
+fn put_forwarded_for(out: &mut Bytes, headers: &Headers, address: [u8; 4]) -> Result<(), NoMemory>
+    ensures { let value = forwarded_for headers.now (ipv4_text address) in
+        OnOk result (out.new ≡ out.old ++ field_line (record { name = codes "x-forwarded-for"; value = value })) }
 {
-    Ipv4Addr::from(address).to_string(alloc)
+    out.extend_from_slice(b"x-forwarded-for: ")?;
+    put_forwarded_values(out, headers)?;
+    put_address(out, address)?;
+    out.extend_from_slice(b"\r\n")?;
+    Ok(())
 }
 
-// The client's values of x-forwarded-for and then its address, joined by a comma and a space.
-#[tactic(auto, using(crate::proofs::UpstreamLemmas::joined_values))]
-fn forwarded_for(alloc: Global, headers: &Headers, address: &[u8]) -> Result<Bytes, NoMemory>
-    ensures { IfOk result (λ value. value ≡ forwarded_for headers.now address.now) }
+// Writes the client's values of x-forwarded-for, each with a comma and a space behind it.
+fn put_forwarded_values(out: &mut Bytes, headers: &Headers) -> Result<(), NoMemory>
+    ensures { OnOk result (out.new ≡ out.old ++ flat_map forwarded_value headers.now) }
 {
-    let mut value = forwarded_values(alloc, headers)?;
-    value.extend_from_slice(address)?;
-    Ok(value)
-}
-
-// The client's values of x-forwarded-for, each with a comma and a space behind it.
-fn forwarded_values(alloc: Global, headers: &Headers) -> Result<Bytes, NoMemory>
-    ensures { IfOk result (λ values. values ≡ flat_map forwarded_value headers.now) }
-{
-    let mut values = Bytes::new(alloc);
     for field in headers.as_slice() {
-        put_forwarded_value(&mut values, field)?;
+        put_forwarded_value(out, field)?;
     }
-    Ok(values)
+    Ok(())
 }
 
 fn put_forwarded_value(out: &mut Bytes, field: &Header) -> Result<(), NoMemory>
@@ -110,4 +102,40 @@ fn put_forwarded_value(out: &mut Bytes, field: &Header) -> Result<(), NoMemory>
         out.extend_from_slice(b", ")?;
     }
     Ok(())
+}
+
+#[tactic(auto, unfolding(crate::specs::FieldLines::field_line))]
+fn put_scheme(out: &mut Bytes) -> Result<(), NoMemory>
+    ensures { OnOk result (out.new ≡ out.old ++ field_line (record { name = codes "x-forwarded-proto"; value = codes "http" })) }
+{
+    out.extend_from_slice(b"x-forwarded-proto: http\r\n")
+}
+
+fn put_real_ip(out: &mut Bytes, address: [u8; 4]) -> Result<(), NoMemory>
+    ensures { OnOk result (out.new ≡ out.old ++ field_line (record { name = codes "x-real-ip"; value = ipv4_text address })) }
+{
+    out.extend_from_slice(b"x-real-ip: ")?;
+    put_address(out, address)?;
+    out.extend_from_slice(b"\r\n")?;
+    Ok(())
+}
+
+// Writes an address in dotted decimal.
+fn put_address(out: &mut Bytes, address: [u8; 4]) -> Result<(), NoMemory>
+    ensures { OnOk result (out.new ≡ out.old ++ ipv4_text address) }
+{
+    let [first, second, third, fourth] = address;
+    put_octet(out, first)?;
+    out.push(b'.')?;
+    put_octet(out, second)?;
+    out.push(b'.')?;
+    put_octet(out, third)?;
+    out.push(b'.')?;
+    put_octet(out, fourth)
+}
+
+fn put_octet(out: &mut Bytes, octet: u8) -> Result<(), NoMemory>
+    ensures { OnOk result (out.new ≡ out.old ++ decimal octet) }
+{
+    out.extend_from_slice(Buffer::new().format(octet).as_bytes())
 }

@@ -3,4 +3,4 @@ use Rattle.kg_text.proofs.name.Name.of_token.Goals as goal
 
 -- a token in lower case stays a token
 pub invariant_of-result : goal.invariant_of-result
-invariant_of-result c = rw c.in_ok-lower_case.ensures (IsName-lower c.args.raw.now c.requires)
+invariant_of-result c = rw c.in_ok-to_ascii_lowercase.ensures.ok (IsName-lower c.args.raw.now c.requires)
