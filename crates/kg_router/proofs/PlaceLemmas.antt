@@ -22,6 +22,7 @@ pub position-push : {A : Type 0} (test : A → Bool) (xs : List A) (x : A) → p
 position-push test xs x =
     position_from-zero test (xs ++ x ∷ [])
     ∙ position_from-push test 0 xs x
+    ∙ ap (λ n. option_or (position_from test 0 xs) (cond (test x) (Some n) None)) (omega arith)
     ∙ ap (λ first. option_or first (cond (test x) (Some (length xs)) None)) (sym (position_from-zero test xs))
 
 -- it is a place in the list

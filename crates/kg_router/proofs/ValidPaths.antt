@@ -34,4 +34,4 @@ good_pattern path good = by_parts (is_regex_path path) (is_normal_path path) (is
 pub no_bad_pattern : (route : Route) → IsValidRoute route → bad_pattern_of route.paths ≡ None
 no_bad_pattern route valid =
     position-none has_bad_pattern route.paths []
-    (λ k below. good_pattern (get_or route.paths k []) (AllPass-from_list_all is_route_path route.paths (and_left _ _ valid.paths) k [] below))
+    (λ k below. good_pattern (get_or route.paths k []) (AllPass-from_list_all is_route_path route.paths (and_left _ _ (and_left _ _ valid.paths)) k [] below))

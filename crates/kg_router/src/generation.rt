@@ -60,37 +60,24 @@ impl RouterGen {
         requires distinct { HasDistinctRoutes routes.now }
         ensures { IfOk result (λ gen. gen ≡ record { rev = rev; services = services.now; routes = routes.now }) }
     {
-        RouterGen::of_slices(alloc, rev, services.as_slice(), routes.as_slice())
+        let services = services.try_clone(alloc)?;
+        RouterGen::of_tests(alloc, rev, services, tests_of(alloc, routes.as_slice())?)
     }
 
-    /// As `build`, for rows in slices.
-    pub fn of_slices(
-        alloc: Global,
-        rev: u64,
-        services: &[Service],
-        routes: &[Route],
-    ) -> Result<RouterGen, NoMemory>
-        requires valid { All IsValidRoute routes.now }
-        requires distinct { HasDistinctRoutes routes.now }
-        ensures { IfOk result (λ gen. gen ≡ record { rev = rev; services = services.now; routes = routes.now }) }
-    {
-        RouterGen::of_tests(alloc, rev, services, tests_of(alloc, routes)?)
-    }
-
-    /// As `build`, for the tests of the routes.
+    /// As `build`, of the services and the tests of the routes.
     pub(crate) fn of_tests(
         alloc: Global,
         rev: u64,
-        services: &[Service],
+        services: List<Service>,
         tests: List<RouteTest>,
     ) -> Result<RouterGen, NoMemory>
         requires { HasDistinctRoutes tests }
-        ensures { IfOk result (λ gen. gen ≡ record { rev = rev; services = services.now; routes = tests }) }
+        ensures { IfOk result (λ gen. gen ≡ record { rev = rev; services = services; routes = tests }) }
     {
-        let candidates = in_order(alloc, services, tests.as_slice())?;
+        let candidates = in_order(alloc, services.as_slice(), tests.as_slice())?;
         Ok(RouterGen {
             rev,
-            services: copies(alloc, services)?,
+            services,
             tests,
             candidates,
         })
@@ -127,16 +114,6 @@ impl RouterGen {
     {
         self.rev
     }
-}
-
-fn copies(alloc: Global, services: &[Service]) -> Result<List<Service>, NoMemory>
-    ensures { IfOk result (λ copies. copies ≡ services.now) }
-{
-    let mut copies = List::new(alloc);
-    for service in services {
-        copies.push(service.try_clone(alloc)?)?;
-    }
-    Ok(copies)
 }
 
 fn tests_of(alloc: Global, routes: &[Route]) -> Result<List<RouteTest>, NoMemory>

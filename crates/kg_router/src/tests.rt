@@ -3,7 +3,7 @@
 mod fixtures;
 
 use crate::rank::Rank;
-use crate::tests::fixtures::{BLANK, Shape, id, request, route, router, valid_router};
+use crate::tests::fixtures::{BLANK, Shape, id, pair, request, route, router, valid_router};
 use kg_entities::Id;
 use std::cmp::Ordering;
 use std::test::Fail;
@@ -53,7 +53,7 @@ fn plain_host_comes_before_a_wildcard(rt: HostRuntime) -> Result<(), Fail> {
         id: 2,
         hosts: &["a.example"],
         paths: &["/t"],
-        created_at: 1,
+        created_at: 2,
         ..BLANK
     };
     for (host, want) in [
@@ -71,7 +71,7 @@ fn regex_path_comes_before_a_longer_prefix(rt: HostRuntime) -> Result<(), Fail> 
     let regex = Shape {
         id: 2,
         paths: &["~/a"],
-        created_at: 1,
+        created_at: 2,
         ..BLANK
     };
     let plain = Shape {
@@ -79,7 +79,10 @@ fn regex_path_comes_before_a_longer_prefix(rt: HostRuntime) -> Result<(), Fail> 
         paths: &["/a/long"],
         ..BLANK
     };
-    assert_eq!(rt; found(&rt, plain, regex, "", "/a/long/x")?, Some((id(2), 2)));
+    assert_eq!(rt;
+        found(&rt, plain, regex, "", "/a/long/x")?,
+        Some((id(2), 2))
+    );
     assert_eq!(rt; found(&rt, plain, regex, "", "/b/a")?, None);
     Ok(())
 }
@@ -99,7 +102,11 @@ fn services_that_take_no_part_hide_their_routes(rt: HostRuntime) -> Result<(), F
             paths: &["/a/b"],
             ..BLANK
         };
-        assert_eq!(rt; found(&rt, hidden, open, "", "/a/b")?, Some((id(9), 2)), "{service}");
+        assert_eq!(rt;
+            found(&rt, hidden, open, "", "/a/b")?,
+            Some((id(9), 2)),
+            "{service}"
+        );
     }
     Ok(())
 }
@@ -118,11 +125,12 @@ fn revision_route_and_service_are_told(rt: HostRuntime) -> Result<(), Fail> {
 
 #[test]
 fn each_comparison_decides_before_the_later_ones(rt: HostRuntime) -> Result<(), Fail> {
-    for (why, first, second) in fixtures::PAIRS {
+    for comparison in 1..=8 {
+        let (first, second) = pair(comparison);
         let first = Rank::of(&route(rt.alloc(), first)?);
         let second = Rank::of(&route(rt.alloc(), second)?);
-        assert_eq!(rt; first.compare(&second), Ordering::Less, "{why}");
-        assert_eq!(rt; second.compare(&first), Ordering::Greater, "{why}");
+        assert_eq!(rt; first.compare(&second), Ordering::Less, "{comparison}");
+        assert_eq!(rt; second.compare(&first), Ordering::Greater, "{comparison}");
     }
     Ok(())
 }

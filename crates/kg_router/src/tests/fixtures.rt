@@ -11,12 +11,11 @@ use kg_text::{Bytes, List, Name, NoMemory, Text};
 use std::alloc::Global;
 use std::test::Fail;
 
-/// What a test says of a route.
+/// What a test says of a route, which is for GET.
 #[derive(Clone, Copy)]
 pub struct Shape<'a> {
     pub id: u8,
     pub service: u8,
-    pub methods: &'a [&'a str],
     pub hosts: &'a [&'a str],
     pub headers: &'a [&'a str],
     pub paths: &'a [&'a str],
@@ -24,21 +23,15 @@ pub struct Shape<'a> {
     pub created_at: u64,
 }
 
-/// A route for GET to the service of id 1.
+/// A route to the service of id 1.
 pub const BLANK: Shape<'static> = Shape {
     id: 1,
     service: 1,
-    methods: &["GET"],
     hosts: &[],
     headers: &[],
     paths: &[],
     regex_priority: 0,
-    created_at: 0,
-};
-
-const EARLY: Shape<'static> = Shape {
     created_at: 1,
-    ..BLANK
 };
 
 const LATE: Shape<'static> = Shape {
@@ -47,113 +40,114 @@ const LATE: Shape<'static> = Shape {
     ..BLANK
 };
 
-/// Routes of which the first comes before the second, and why. What is compared later would say
-/// otherwise.
-pub const PAIRS: [(&str, Shape<'static>, Shape<'static>); 8] = [
-    (
-        "more attributes",
-        Shape {
-            hosts: &["*.b"],
-            paths: &["/a"],
-            ..LATE
-        },
-        Shape {
-            paths: &["/aaaa"],
-            ..EARLY
-        },
-    ),
-    (
-        "no wildcard host",
-        Shape {
-            hosts: &["a.b"],
-            headers: &["x"],
-            ..LATE
-        },
-        Shape {
-            hosts: &["a.b", "*.b"],
-            headers: &["x", "y"],
-            ..EARLY
-        },
-    ),
-    (
-        "more header names",
-        Shape {
-            headers: &["x", "y"],
-            paths: &["/a"],
-            ..LATE
-        },
-        Shape {
-            headers: &["x"],
-            paths: &["~/aaaa"],
-            ..EARLY
-        },
-    ),
-    (
-        "a regex path",
-        Shape {
-            paths: &["~/a"],
-            regex_priority: -7,
-            ..LATE
-        },
-        Shape {
-            paths: &["/aaaa"],
-            regex_priority: 7,
-            ..EARLY
-        },
-    ),
-    (
-        "the higher priority",
-        Shape {
-            paths: &["~/a"],
-            regex_priority: -1,
-            ..LATE
-        },
-        Shape {
-            paths: &["~/aaaa"],
-            regex_priority: -2,
-            ..EARLY
-        },
-    ),
-    (
-        "the longer path",
-        Shape {
-            paths: &["/a", "/abc"],
-            ..LATE
-        },
-        Shape {
-            paths: &["/ab", "/cd"],
-            ..EARLY
-        },
-    ),
-    (
-        "the earlier creation, where the lengths without a tilde tie",
-        Shape {
-            paths: &["~/a", "/abc"],
-            created_at: 1,
-            ..LATE
-        },
-        Shape {
-            paths: &["~/abc"],
-            created_at: 2,
-            ..EARLY
-        },
-    ),
-    (
-        "the smaller id, where the priority of plain paths has no effect",
-        Shape {
-            id: 1,
-            paths: &["/a"],
-            regex_priority: 1,
-            ..EARLY
-        },
-        Shape {
-            id: 2,
-            paths: &["/a"],
-            regex_priority: 2,
-            ..EARLY
-        },
-    ),
-];
+/// Routes of which the first comes before the second by the comparison of this number, from 1 to
+/// 8. What is compared later would say otherwise.
+pub fn pair(comparison: u8) -> (Shape<'static>, Shape<'static>) {
+    match comparison {
+        // More attributes.
+        1 => (
+            Shape {
+                hosts: &["*.b"],
+                paths: &["/a"],
+                ..LATE
+            },
+            Shape {
+                paths: &["/aaaa"],
+                ..BLANK
+            },
+        ),
+        // No wildcard host.
+        2 => (
+            Shape {
+                hosts: &["a.b"],
+                headers: &["x"],
+                ..LATE
+            },
+            Shape {
+                hosts: &["a.b", "*.b"],
+                headers: &["x", "y"],
+                ..BLANK
+            },
+        ),
+        // More header names.
+        3 => (
+            Shape {
+                headers: &["x", "y"],
+                paths: &["/a"],
+                ..LATE
+            },
+            Shape {
+                headers: &["x"],
+                paths: &["~/aaaa"],
+                ..BLANK
+            },
+        ),
+        // A regex path.
+        4 => (
+            Shape {
+                paths: &["~/a"],
+                regex_priority: -7,
+                ..LATE
+            },
+            Shape {
+                paths: &["/aaaa"],
+                regex_priority: 7,
+                ..BLANK
+            },
+        ),
+        // The higher priority of regex paths.
+        5 => (
+            Shape {
+                paths: &["~/a"],
+                regex_priority: -1,
+                ..LATE
+            },
+            Shape {
+                paths: &["~/aaaa"],
+                regex_priority: -2,
+                ..BLANK
+            },
+        ),
+        // The longer path.
+        6 => (
+            Shape {
+                paths: &["/a", "/abc"],
+                ..LATE
+            },
+            Shape {
+                paths: &["/ab", "/cd"],
+                ..BLANK
+            },
+        ),
+        // The earlier creation, where the lengths without a tilde tie.
+        7 => (
+            Shape {
+                paths: &["~/a", "/abc"],
+                created_at: 1,
+                ..LATE
+            },
+            Shape {
+                paths: &["~/abc"],
+                created_at: 2,
+                ..BLANK
+            },
+        ),
+        // The smaller id, where the priority of plain paths has no effect.
+        _ => (
+            Shape {
+                paths: &["/a"],
+                regex_priority: 1,
+                ..BLANK
+            },
+            Shape {
+                id: 2,
+                paths: &["/a"],
+                regex_priority: 2,
+                ..BLANK
+            },
+        ),
+    }
+}
 
 /// An id, in the order of its last byte.
 pub fn id(last: u8) -> Id {
@@ -182,7 +176,7 @@ pub fn route(alloc: Global, shape: Shape<'_>) -> Result<Route, Fail> {
         name: None,
         service: id(shape.service),
         https: true,
-        methods: texts(alloc, shape.methods)?,
+        methods: texts(alloc, &["GET"])?,
         hosts: texts(alloc, shape.hosts)?,
         paths: texts(alloc, shape.paths)?,
         headers,
@@ -249,7 +243,7 @@ pub fn router(alloc: Global, first: Shape<'_>, second: Shape<'_>) -> Result<Rout
     let mut tests = List::new(alloc);
     tests.push(first)?;
     tests.push(second)?;
-    let router = RouterGen::of_tests(alloc, 7, services(alloc)?.as_slice(), tests)?;
+    let router = RouterGen::of_tests(alloc, 7, services(alloc)?, tests)?;
     Ok(router)
 }
 
