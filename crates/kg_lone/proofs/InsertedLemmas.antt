@@ -9,6 +9,9 @@ use Rattle.kg_entities.specs.RowLists.{RowLists, no_rows}
 use Rattle.kg_entities.specs.declared.entity.Entity.{Entity}
 use Rattle.kg_entities.specs.declared.entity.Entity.TheVariants as row
 use Rattle.kg_declare.specs.Histories.{InsertsValidRow}
+use Rattle.kg_entities.specs.declared.route.Route.{Route}
+use Rattle.kg_entities.specs.declared.service.Service.{Service}
+use Rattle.kg_router.specs.RouterRows.{RouterRows}
 use Rattle.kg_rows.specs.Rows.{rows_after, rows_from}
 use Rattle.kg_rows.specs.declared.command.Command.{Command}
 use Rattle.kg_rows.specs.declared.command.Command.TheVariants.{Insert, Update, Delete}
@@ -81,6 +84,14 @@ routes_are commands all = (all_behind no_rows commands all).routes
 
 pub plugins_are : (commands : List Command) → All InsertsValidRow commands → (length (rows_after commands).plugins == 0) ≡ not (has_plugin commands)
 plugins_are commands all = (all_behind no_rows commands all).plugins
+
+-- a router over the rows that the commands insert is one over the rows after them
+pub routing : (commands : List Command) (services : List Service) (routes : List Route) → All InsertsValidRow commands
+    → services ≡ services_in commands → routes ≡ routes_in commands
+    → ◌≡◌ {A = RouterRows} (record { rev = 0; services = services; routes = routes }) (router_rows (rows_after commands))
+routing commands services routes all one other =
+    ap (λ s. record { rev = 0; services = s; routes = routes }) (one ∙ sym (services_are commands all))
+    ∙ ap (λ r. record { rev = 0; services = (rows_after commands).services; routes = r }) (other ∙ sym (routes_are commands all))
 
 -- ---- one command more
 

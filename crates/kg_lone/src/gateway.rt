@@ -1,6 +1,8 @@
 //! The plain gateway: one request, its route, and the reply.
 
 ghost use Rattle.std.specs.Prelude.{◌≡◌, IfOk};
+ghost use Rattle.kg_lone.specs.Echo.{IsEcho, echo_of};
+ghost use Rattle.kg_wire.specs.ReplyText.{reply_text};
 ghost use Rattle.kg_lone.specs.Plain.{bad_request, bad_request_text, is_bodiless, no_route, reply_to};
 
 use crate::echo::echo_of;
@@ -63,12 +65,28 @@ impl Gateway {
         let keeping = keeping_of(last, request);
         match self.router.find(alloc, request)? {
             Some(choice) => {
-                self.echo.body = upstream_message(alloc, &choice, request)?;
-                render_response(alloc, &self.echo, bodiless, keeping)
+                let message = upstream_message(alloc, &choice, request)?;
+                echoed(alloc, &mut self.echo, message, bodiless, keeping)
             }
             None => render_response(alloc, &self.no_route, bodiless, keeping),
         }
     }
+}
+
+// The text of the echo's answer to a message. What it answered before is forgotten.
+fn echoed(
+    alloc: Global,
+    echo: &mut Response,
+    message: Bytes,
+    bodiless: bool,
+    keeping: Keeping,
+) -> Result<Bytes, NoMemory>
+    requires { IsEcho echo.old }
+    ensures echo { IsEcho echo.new }
+    ensures text { IfOk result (λ text. text ≡ reply_text (echo_of message) bodiless keeping) }
+{
+    echo.body = message;
+    render_response(alloc, echo, bodiless, keeping)
 }
 
 #[tactic(auto, unfolding(crate::specs::Plain::no_route))]

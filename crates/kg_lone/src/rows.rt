@@ -13,13 +13,12 @@ use kg_text::{List, NoMemory};
 use std::alloc::Global;
 
 /// The router over the services and routes that the commands insert.
-#[tactic(auto, using(crate::proofs::InsertedLemmas::services_are, crate::proofs::InsertedLemmas::routes_are))]
 pub fn router_of(alloc: Global, commands: List<Command>) -> Result<RouterGen, NoMemory>
     requires { AreInsertions most_rows commands }
     ensures { IfOk result (λ router. router ≡ router_rows (rows_after commands)) }
 {
-    let (services, routes) = inserted_rows(alloc, commands)?;
-    RouterGen::build(alloc, 0, &services, &routes)
+    let rows = inserted_rows(alloc, commands)?;
+    RouterGen::build(alloc, 0, &rows.0, &rows.1)
 }
 
 // The services and the routes that the commands insert.

@@ -1,6 +1,8 @@
 //! The client's fields that the gateway passes on.
 
 ghost use Rattle.std.specs.Prelude.{◌≡◌, IfOk};
+ghost use Rattle.std.specs.List.{list_any};
+ghost use Rattle.kg_message.specs.HeaderLists.{is_named};
 ghost use Rattle.kg_lone.specs.UpstreamFields.{goes_upstream, is_stated, upstream_fields};
 
 use kg_message::{Header, Headers, is_hop_by_hop};
@@ -52,7 +54,13 @@ fn goes_upstream(headers: &Headers, field: &Header) -> bool
 fn is_stated(field: &Header) -> bool
     ensures { result ≡ is_stated field.now }
 {
-    STATED_NAMES.iter().any(|name| field.name.same(name.as_bytes()))
+    is_among(&STATED_NAMES, field)
+}
+
+fn is_among(names: &[&str], field: &Header) -> bool
+    ensures { result ≡ list_any (λ name. is_named name.now field.now) names.now }
+{
+    names.iter().any(|name| field.name.same(name.as_bytes()))
 }
 
 #[cfg(test)]
