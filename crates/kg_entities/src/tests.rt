@@ -1,25 +1,10 @@
 use super::*;
-use kg_text::{CopyKey, List, Text, TryClone};
+use kg_text::{CopyKey, List, Text};
 use std::alloc::Global;
 use std::test::Fail;
 
-// The id of version 4 whose last byte is this.
-fn id(last: u8) -> Id {
-    Id::from_drawn([0, 0, 0, 0, 0, 0, 0, 0, 0, 0, 0, 0, 0, 0, 0, last])
-}
-
 fn text(alloc: Global, text: &str) -> Result<Text, Fail> {
     Ok(Text::from_str(alloc, text)?)
-}
-
-fn consumer(alloc: Global, last: u8, username: &str) -> Result<Entity, Fail> {
-    Ok(Entity::Consumer(Consumer {
-        id: id(last),
-        username: Some(text(alloc, username)?),
-        custom_id: None,
-        created_at: 0,
-        updated_at: 0,
-    }))
 }
 
 #[test]
@@ -60,14 +45,6 @@ fn keys_are_copied(rt: HostRuntime) -> Result<(), Fail> {
 #[test]
 fn generations_are_copied(rt: HostRuntime) -> Result<(), Fail> {
     assert_eq!(rt; GenKey::Router.copy(rt.alloc())?, GenKey::Router);
-    Ok(())
-}
-
-#[test]
-fn rows_are_copied(rt: HostRuntime) -> Result<(), Fail> {
-    let alloc = rt.alloc();
-    let row = consumer(alloc, 1, "a")?;
-    assert!(rt; row.try_clone(alloc)? == row);
     Ok(())
 }
 
