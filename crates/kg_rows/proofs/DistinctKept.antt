@@ -1,10 +1,10 @@
 -- Consistent commands leave to one row what only one may have.
-use Rattle.std.proofs.Common.{◌≡◌, ℕ, ◌==◌, Bool, true, false, not, ◌&&◌, List, Option, Some, None, refl, sym, ap₂}
+use Rattle.std.proofs.Common.{◌≡◌, ℕ, ◌==◌, Bool, true, false, not, ◌&&◌, Option, Some, None, refl, ap₂}
 use Rattle.kg_entities.specs.Entities.{kind_of, id_of_row}
 use Rattle.kg_entities.specs.PluginNames.{plugin_of, priority}
 use Rattle.kg_entities.specs.RowChanges.{has_row, names_row}
 use Rattle.kg_entities.specs.RowLists.{RowLists}
-use Rattle.kg_entities.specs.ValidRows.{HasDistinctIds, HasDistinctRows, same_id, same_membership, same_place}
+use Rattle.kg_entities.specs.ValidRows.{HasDistinctRows, same_id, same_membership, same_place}
 use Rattle.kg_entities.specs.declared.consumer.AclRow.{AclRow}
 use Rattle.kg_entities.specs.declared.consumer.BasicCred.{BasicCred}
 use Rattle.kg_entities.specs.declared.consumer.Consumer.{Consumer}

@@ -85,9 +85,10 @@ module _ {X : Type 0} where
     distinct_push : (new : X) (xs : List X) → list_any (λ x. e x new) xs ≡ false → IsDistinct e xs → IsDistinct e (xs ++ new ∷ [])
     unfolding IsDistinct
     distinct_push new [] none distinct = (tt, tt)
-    distinct_push new (x ∷ xs) none distinct =
-        (each_push (λ y. e x y ≡ false) new (or_left (e x new) (list_any (λ y. e y new) xs) none) xs distinct.0,
-        distinct_push new xs (or_right (e x new) (list_any (λ y. e y new) xs) none) distinct.1)
+    distinct_push new (x ∷ xs) none distinct = (
+      each_push (λ y. e x y ≡ false) new (or_left (e x new) (list_any (λ y. e y new) xs) none) xs distinct.0,
+      distinct_push new xs (or_right (e x new) (list_any (λ y. e y new) xs) none) distinct.1,
+    )
 
     pub distinct_filter : (p : X → Bool) (xs : List X) → IsDistinct e xs → IsDistinct e (filter p xs)
     unfolding IsDistinct
@@ -208,9 +209,10 @@ module _ {X : Type 0} (number : X → ℕ) where
     others_differ : (new : X) (id : ℕ) → id ≡ number new → (xs : List X) → AllByRecursion (λ n. nat_eq id n ≡ false) (map number xs) → AloneAmong e new xs → AllByRecursion (λ y. e new y ≡ false) xs
     others_differ new id same [] differ alone = tt
     others_differ new id same (x ∷ xs) differ alone =
-        let other : (number x == number new) ≡ false = number_flips (number x) (number new) ∙ ap (λ n. n == number x) (sym same) ∙ differ.0 in
-        (flips new x ∙ sym (ap (λ b. not b && e x new) other) ∙ or_left (not (number x == number new) && e x new) (list_any (λ y. not (number y == number new) && e y new) xs) alone,
-        others_differ new id same xs differ.1 (or_right (not (number x == number new) && e x new) (list_any (λ y. not (number y == number new) && e y new) xs) alone))
+        let other : (number x == number new) ≡ false = number_flips (number x) (number new) ∙ ap (λ n. n == number x) (sym same) ∙ differ.0 in (
+          flips new x ∙ sym (ap (λ b. not b && e x new) other) ∙ or_left (not (number x == number new) && e x new) (list_any (λ y. not (number y == number new) && e y new) xs) alone,
+          others_differ new id same xs differ.1 (or_right (not (number x == number new) && e x new) (list_any (λ y. not (number y == number new) && e y new) xs) alone),
+        )
 
     pub alone_replaced : (new : X) (xs : List X) → IsDistinct nat_eq (map number xs) → AloneAmong e new xs → IsDistinct e xs → IsDistinct e (replaced (has_number (number new)) new xs)
     unfolding IsDistinct

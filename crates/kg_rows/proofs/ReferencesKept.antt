@@ -1,5 +1,5 @@
 -- Consistent commands leave what rows name there.
-use Rattle.std.proofs.Common.{◌≡◌, ℕ, ◌==◌, Bool, true, false, cond, not, ◌&&◌, ◌||◌, List, [], ◌∷◌, ◌++◌, All, IfSome, filter, Option, Some, None, refl, sym, ap, ap₂, subst, ◌∙◌, true≢false}
+use Rattle.std.proofs.Common.{◌≡◌, ℕ, ◌==◌, Bool, true, false, cond, not, ◌&&◌, ◌||◌, List, [], ◌∷◌, ◌++◌, All, IfSome, filter, Option, Some, None, refl, sym, ap, ◌∙◌}
 use Rattle.std.proofs.lemmas.Bool.{eqb-true}
 use Rattle.std.proofs.lemmas.List.Elements.{All-cons, All-filter, All-head, All-nil, All-push, All-tail}
 use Rattle.std.proofs.lemmas.List.Folds.{list_any-append}
@@ -11,20 +11,17 @@ use Rattle.kg_entities.specs.Tables.{replaced}
 use Rattle.kg_entities.specs.ValidRows.{HasReferences, has_consumer, has_route, has_service}
 use Rattle.kg_entities.specs.declared.consumer.AclRow.{AclRow}
 use Rattle.kg_entities.specs.declared.consumer.BasicCred.{BasicCred}
-use Rattle.kg_entities.specs.declared.consumer.Consumer.{Consumer}
 use Rattle.kg_entities.specs.declared.consumer.KeyCred.{KeyCred}
 use Rattle.kg_entities.specs.declared.entity.Entity.{Entity}
 use Rattle.kg_entities.specs.declared.entity.Entity.TheVariants as row
 use Rattle.kg_entities.specs.declared.entity.Kind.{Kind}
 use Rattle.kg_entities.specs.declared.entity.Kind.TheVariants as kind
 use Rattle.kg_entities.specs.declared.plugin.PluginRow.{PluginRow}
-use Rattle.kg_entities.specs.declared.plugin.Scope.{Scope}
 use Rattle.kg_entities.specs.declared.route.Route.{Route}
-use Rattle.kg_entities.specs.declared.service.Service.{Service}
 use Rattle.kg_rows.proofs.DistinctLemmas.{both_first, both_second, number_flips, untrue}
 use Rattle.kg_rows.proofs.Searches.{or_left, or_right}
 use Rattle.kg_rows.proofs.ValidKept.{all_replaced}
-use Rattle.kg_rows.specs.Allowed.{has_if_set, has_named_rows, has_scope, is_consistent, is_unique, is_unused}
+use Rattle.kg_rows.specs.Allowed.{has_if_set, has_named_rows, is_consistent, is_unique, is_unused}
 use Rattle.kg_rows.specs.Rows.{changed}
 use Rattle.kg_rows.specs.declared.command.Command.{Command}
 use Rattle.kg_rows.specs.declared.command.Command.TheVariants.{Insert, Update, Delete}

@@ -1,5 +1,5 @@
 -- Commands that put valid rows keep the rows valid.
-use Rattle.std.proofs.Common.{◌≡◌, ℕ, ◌==◌, Bool, true, false, cond, not, List, [], ◌∷◌, ◌++◌, All, filter}
+use Rattle.std.proofs.Common.{ℕ, ◌==◌, Bool, true, false, cond, not, List, [], ◌∷◌, All, filter}
 use Rattle.std.proofs.lemmas.List.Elements.{All-cons, All-filter, All-head, All-push, All-tail}
 use Rattle.kg_entities.specs.RowChanges.{names_row}
 use Rattle.kg_entities.specs.RowLists.{RowLists}
