@@ -22,7 +22,6 @@ pub fn router_of(alloc: Global, commands: List<Command>) -> Result<RouterGen, No
 }
 
 // The services and the routes that the commands insert.
-#[tactic(auto, using(crate::proofs::InsertedLemmas::services_push, crate::proofs::InsertedLemmas::routes_push))]
 fn inserted_rows(
     alloc: Global,
     commands: List<Command>,
