@@ -1,6 +1,6 @@
 -- The text of a dry run: it is determined by what was read, and a run that was cut short wrote a front of it.
-use Rattle.std.proofs.Common.{◌≡◌, ◌≢◌, ℕ, ◌+◌, ◌<◌, ◌≤◌, ◌==◌, ◌⊎◌, inl, inr, List, [], ◌∷◌, ◌++◌, Option, Some, None, Result, Ok, Err, length, refl, sym, ap, ◌∙◌, subst, arith}
-use Rattle.std.proofs.lemmas.List.{append_assoc, append-nil, length-append}
+use Rattle.std.proofs.Common.{◌≡◌, ◌≢◌, ℕ, ◌+◌, ◌≤◌, ◌==◌, ◌⊎◌, inl, inr, List, [], ◌∷◌, ◌++◌, Option, Some, None, Result, Ok, Err, length, refl, sym, ap, ◌∙◌, subst, arith}
+use Rattle.std.proofs.lemmas.List.{append_assoc, append-nil}
 use Rattle.std.specs.List.{flat_map}
 use Rattle.kg_outside.specs.Moves.{with_front, with_end}
 use Rattle.kg_outside.proofs.Observed.{with_end-append}
@@ -11,7 +11,7 @@ use Rattle.kg_declare.specs.Outcome.{Progress, Refused as RefusedLine}
 use Rattle.kg_declare.specs.Steps.{progress_after}
 use Rattle.kg_rows.specs.Rows.{rows_after}
 use Rattle.kg_rows.specs.declared.command.Command.{Command}
-use Rattle.kg_lone.specs.Answered.{AnswersAll, AnswersFront, EndsWith, FrontOfReplies}
+use Rattle.kg_lone.specs.Answered.{AnswersFront, EndsWith, FrontOfReplies}
 use Rattle.kg_lone.specs.DryRun.{IsBroken, IsCutShort, IsSameText, IsWhole}
 use Rattle.kg_lone.specs.DryText.{BeginsText, EndsSo, IsDryText, WritesFront, WritesText, last_text, local_address, most_requests, most_rows, status_of, texts}
 use Rattle.kg_lone.specs.FirstCommands.{Decides, GivesCommands, IsFirstStatus, WritesFirstFront, WritesRefusal, first_outcome, first_text, refusal_line}

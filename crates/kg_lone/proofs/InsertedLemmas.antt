@@ -1,5 +1,5 @@
 -- The rows after commands that insert are those that they insert.
-use Rattle.std.proofs.Common.{◌≡◌, ℕ, suc, ◌==◌, Bool, true, false, not, ◌&&◌, ◌||◌, List, [], ◌∷◌, ◌++◌, Option, Some, None, length, refl, sym, ap, ◌∙◌, All, arith}
+use Rattle.std.proofs.Common.{◌≡◌, ℕ, suc, ◌==◌, Bool, true, false, not, ◌&&◌, List, [], ◌∷◌, ◌++◌, Option, Some, None, length, refl, sym, ap, ◌∙◌, All, arith}
 use Rattle.std.specs.List.{filter_map}
 use Rattle.std.proofs.lemmas.Bool.Decides.{nat_tests}
 use Rattle.std.proofs.lemmas.List.{append-nil, append_assoc}
@@ -15,7 +15,7 @@ use Rattle.kg_router.specs.RouterRows.{RouterRows}
 use Rattle.kg_rows.specs.Rows.{rows_after, rows_from}
 use Rattle.kg_rows.specs.declared.command.Command.{Command}
 use Rattle.kg_rows.specs.declared.command.Command.TheVariants.{Insert, Update, Delete}
-use Rattle.kg_lone.specs.InsertedRows.{has_plugin, is_plugin, route_in, router_rows, routes_in, service_in, services_in, with_one}
+use Rattle.kg_lone.specs.InsertedRows.{has_plugin, route_in, router_rows, routes_in, service_in, services_in, with_one}
 
 -- the rows are those before, and behind them those that the commands insert
 record AreBehind (before : RowLists) (commands : List Command) (after : RowLists) : Type 0 where

@@ -1,5 +1,5 @@
 -- The rows that commands insert, by their kinds.
-use Rattle.std.specs.Prelude.{◌≡◌, ℕ, Bool, true, false, List, [], ◌∷◌, ◌++◌, Option, Some, None}
+use Rattle.std.specs.Prelude.{Bool, true, false, List, [], ◌∷◌, ◌++◌, Option, Some, None}
 use Rattle.std.specs.List.{filter_map, list_any}
 use Rattle.kg_entities.specs.RowLists.{RowLists}
 use Rattle.kg_entities.specs.declared.entity.Entity.{Entity}
