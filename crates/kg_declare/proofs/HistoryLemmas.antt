@@ -1,5 +1,6 @@
 -- The commands so far with one more.
-use Rattle.std.proofs.Common.{◌≡◌, ℕ, Bool, true, false, not, List, [], ◌∷◌, ◌++◌, All, Option, Some, None, Result, Ok, Err, IsTrue, ⊤, refl, sym, ap, subst, ◌∙◌, true≢false, ap₂}
+use Rattle.std.proofs.Common.{◌≡◌, ℕ, Bool, true, false, not, List, [], ◌∷◌, ◌++◌, All, Option, Some, None, Result, Ok, Err, IsTrue, refl, sym, ap, subst, ◌∙◌, true≢false, ap₂}
+use Rattle.std.specs.Bool.{⊤}
 use Rattle.std.proofs.lemmas.Bool.{and_parts}
 use Rattle.std.proofs.lemmas.List.Elements.{All-nil, All-push}
 use Rattle.serde_json.specs.Data.{Data}
@@ -34,11 +35,11 @@ Inserts (command.Insert new) = ⊤
 Inserts (command.Update new) = ⊥
 Inserts (command.Delete kind id) = ⊥
 
-given : Result Command Refusal → Command → Command
+abbrev given : Result Command Refusal → Command → Command
 given (Ok done) other = done
 given (Err refusal) other = other
 
-is_ok : Result Command Refusal → Bool
+abbrev is_ok : Result Command Refusal → Bool
 is_ok (Ok done) = true
 is_ok (Err refusal) = false
 

@@ -4,7 +4,7 @@ ghost use Rattle.std.specs.Prelude.{◌≡◌, ℕ, List as Sequence, [], IfErr,
 ghost use Rattle.serde_json.specs.Find.{as_object};
 ghost use Rattle.serde_json.specs.View.{members_view, view};
 ghost use Rattle.kg_declare.specs.Faults.{own_faults};
-ghost use Rattle.kg_declare.specs.Histories.{AreInsertions};
+ghost use Rattle.kg_declare.specs.Histories.{AreInsertions, IsConsistent};
 ghost use Rattle.kg_declare.specs.Outcome.{declaration_of, json_of, outcome};
 ghost use Rattle.kg_declare.specs.SeenRows.{seen_all};
 ghost use Rattle.kg_declare.specs.Steps.{Declares, IsRefusedAt, IsUnread, Prepares, TellsFaults};
@@ -42,16 +42,25 @@ pub fn declare<I: Ids>(
     ensures outcome { Declares I.draws ids.old ids.new result (outcome line.now now limit) }
     ensures commands { IfOk result (AreInsertions limit) }
 {
-    allowed_commands_make_valid_rows();
     let rows = match prepared(alloc, line) {
         Ok(rows) => rows,
         Err(e) => return Err(e),
     };
     let mut made = Made::new(alloc);
     match insert_rows(alloc, rows, &mut made, ids, now, limit) {
-        Ok(()) => Ok(made.commands),
+        Ok(()) => Ok(commands_of(made, limit)),
         Err(e) => Err(e),
     }
+}
+
+// The commands, as what they are.
+fn commands_of(made: Made, limit: u32) -> List<Command>
+    ensures commands { result ≡ made.commands }
+    ensures insertions { IsConsistent limit made → AreInsertions limit result }
+{
+    allowed_commands_make_valid_rows();
+    let _limit = limit;
+    made.commands
 }
 
 // The rows of a declaration with which itself nothing is wrong.

@@ -1,6 +1,7 @@
 -- The rows after commands that are valid and allowed, one after another.
-use Rattle.std.proofs.Common.{◌≡◌, ℕ, true, List, [], ◌∷◌, ◌++◌, All}
+use Rattle.std.proofs.Common.{◌≡◌, ℕ, true, List, [], ◌∷◌, ◌++◌}
 use Rattle.std.proofs.lemmas.List.Elements.{All-nil}
+use Rattle.std.specs.List.{IsDistinct}
 use Rattle.kg_entities.specs.RowLists.{RowLists, no_rows}
 use Rattle.kg_entities.specs.ValidRows.{AreValidRows, HasDistinctRows, HasReferences}
 use Rattle.kg_rows.proofs.DistinctKept.{changed_distinct}
@@ -16,6 +17,7 @@ pub no_rows_valid : AreValidRows no_rows
 no_rows_valid = record { services = All-nil _; routes = All-nil _; consumers = All-nil _; key_creds = All-nil _; basic_creds = All-nil _; acls = All-nil _; plugins = All-nil _ }
 
 pub no_rows_distinct : HasDistinctRows no_rows
+unfolding IsDistinct
 no_rows_distinct = record {
   ids = record { services = tt; routes = tt; consumers = tt; key_creds = tt; basic_creds = tt; acls = tt; plugins = tt };
   service_names = tt;

@@ -1,16 +1,16 @@
 -- What is decided is allowed.
-use Rattle.std.proofs.Common.{◌≡◌, ℕ, ◌/◌, Bool, true, false, not, ◌&&◌, nat_lt, List, Option, None, Some, option_map, Result, Ok, Err, IfOk, if◌then◌else◌, refl, sym, ap, ap₂, subst, ◌∙◌, true≢false}
+use Rattle.std.proofs.Common.{◌≡◌, ℕ, Bool, true, false, not, ◌&&◌, nat_lt, List, Option, None, Some, Result, Ok, Err, IfOk, if◌then◌else◌, refl, sym, ap, ap₂, subst, ◌∙◌, true≢false}
 use Rattle.std.specs.Option.{option_or}
 use Rattle.serde_json.specs.Data.{Data}
 use Rattle.serde_json.specs.View.{view}
-use Rattle.kg_entities.specs.Entities.{kind_of, id_of_row}
+use Rattle.kg_entities.specs.Entities.{id_of_row}
 use Rattle.kg_entities.specs.RowChanges.{count_of, has_row}
 use Rattle.kg_entities.specs.RowLists.{RowLists}
 use Rattle.kg_entities.specs.declared.entity.Entity.{Entity}
 use Rattle.kg_entities.specs.declared.entity.Kind.{Kind}
-use Rattle.kg_rows.specs.Allowed.{has_named_rows, is_allowed, is_unique, is_unused}
+use Rattle.kg_rows.specs.Allowed.{has_named_rows, is_allowed, is_unused}
 use Rattle.kg_rows.specs.Claims.{claimed}
-use Rattle.kg_rows.specs.Decision.{and_then, base_by, Decides, decision, deletion, full, inserted, insertion, missing, needed, patched, proposed, put, put_over, replaced, still_named, taken_by_other, unless, violation}
+use Rattle.kg_rows.specs.Decision.{base_by, Decides, decision, deletion, full, inserted, insertion, missing, needed, patched, proposed, put, put_over, replaced, still_named, taken_by_other, unless, violation}
 use Rattle.kg_rows.specs.References.{link_of, links_in, links_of, lost_field, meant_in, strange_field}
 use Rattle.kg_rows.specs.Selections.{place_of, rows_in, selected}
 use Rattle.kg_rows.specs.declared.command.Command.{Command}

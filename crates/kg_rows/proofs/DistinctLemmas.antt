@@ -83,12 +83,15 @@ module _ {X : Type 0} where
 
   module _ (e : X → X → Bool) where
     distinct_push : (new : X) (xs : List X) → list_any (λ x. e x new) xs ≡ false → IsDistinct e xs → IsDistinct e (xs ++ new ∷ [])
+    unfolding IsDistinct
     distinct_push new [] none distinct = (tt, tt)
-    distinct_push new (x ∷ xs) none distinct =
-        (each_push (λ y. e x y ≡ false) new (or_left (e x new) (list_any (λ y. e y new) xs) none) xs distinct.0,
-        distinct_push new xs (or_right (e x new) (list_any (λ y. e y new) xs) none) distinct.1)
+    distinct_push new (x ∷ xs) none distinct = (
+      each_push (λ y. e x y ≡ false) new (or_left (e x new) (list_any (λ y. e y new) xs) none) xs distinct.0,
+      distinct_push new xs (or_right (e x new) (list_any (λ y. e y new) xs) none) distinct.1,
+    )
 
     pub distinct_filter : (p : X → Bool) (xs : List X) → IsDistinct e xs → IsDistinct e (filter p xs)
+    unfolding IsDistinct
     distinct_filter p [] distinct = tt
     distinct_filter p (x ∷ xs) distinct =
         (elim (p x) as (λ b. IsDistinct e (cond {A = List X} b (x ∷ filter p xs) (filter p xs))) [
@@ -112,10 +115,12 @@ module _ {X K : Type 0} (e : K → K → Bool) where
     from_parts k (x ∷ xs) all = (all.0, from_parts k xs all.1)
 
     pub to_map : (xs : List X) → IsDistinct by_part xs → IsDistinct e (map f xs)
+    unfolding IsDistinct
     to_map [] distinct = tt
     to_map (x ∷ xs) distinct = (to_parts (f x) xs distinct.0, to_map xs distinct.1)
 
     pub from_map : (xs : List X) → IsDistinct e (map f xs) → IsDistinct by_part xs
+    unfolding IsDistinct
     from_map [] distinct = tt
     from_map (x ∷ xs) distinct = (from_parts (f x) xs distinct.0, from_map xs distinct.1)
 
@@ -148,6 +153,7 @@ module _ {X K : Type 0} (e : K → K → Bool) where
         ]) all
 
     pub to_filter_map : (xs : List X) → IsDistinct by_set xs → IsDistinct e (filter_map f xs)
+    unfolding IsDistinct
     to_filter_map [] distinct = tt
     to_filter_map (x ∷ xs) distinct =
         (elim (f x) as (λ o. AllByRecursion (λ y. both_alike e o (f y) ≡ false) xs → IsDistinct e (cons_option o (filter_map f xs))) [
@@ -156,6 +162,7 @@ module _ {X K : Type 0} (e : K → K → Bool) where
         ]) distinct.0
 
     pub from_filter_map : (xs : List X) → IsDistinct e (filter_map f xs) → IsDistinct by_set xs
+    unfolding IsDistinct
     from_filter_map [] distinct = tt
     from_filter_map (x ∷ xs) distinct =
         (elim (f x) as (λ o. IsDistinct e (cons_option o (filter_map f xs)) → AllByRecursion (λ y. both_alike e o (f y) ≡ false) xs × IsDistinct by_set xs) [
@@ -202,11 +209,13 @@ module _ {X : Type 0} (number : X → ℕ) where
     others_differ : (new : X) (id : ℕ) → id ≡ number new → (xs : List X) → AllByRecursion (λ n. nat_eq id n ≡ false) (map number xs) → AloneAmong e new xs → AllByRecursion (λ y. e new y ≡ false) xs
     others_differ new id same [] differ alone = tt
     others_differ new id same (x ∷ xs) differ alone =
-        let other : (number x == number new) ≡ false = number_flips (number x) (number new) ∙ ap (λ n. n == number x) (sym same) ∙ differ.0 in
-        (flips new x ∙ sym (ap (λ b. not b && e x new) other) ∙ or_left (not (number x == number new) && e x new) (list_any (λ y. not (number y == number new) && e y new) xs) alone,
-        others_differ new id same xs differ.1 (or_right (not (number x == number new) && e x new) (list_any (λ y. not (number y == number new) && e y new) xs) alone))
+        let other : (number x == number new) ≡ false = number_flips (number x) (number new) ∙ ap (λ n. n == number x) (sym same) ∙ differ.0 in (
+          flips new x ∙ sym (ap (λ b. not b && e x new) other) ∙ or_left (not (number x == number new) && e x new) (list_any (λ y. not (number y == number new) && e y new) xs) alone,
+          others_differ new id same xs differ.1 (or_right (not (number x == number new) && e x new) (list_any (λ y. not (number y == number new) && e y new) xs) alone),
+        )
 
     pub alone_replaced : (new : X) (xs : List X) → IsDistinct nat_eq (map number xs) → AloneAmong e new xs → IsDistinct e xs → IsDistinct e (replaced (has_number (number new)) new xs)
+    unfolding IsDistinct
     alone_replaced new [] ids alone distinct = tt
     alone_replaced new (x ∷ xs) ids alone distinct =
         let first = or_left (not (number x == number new) && e x new) (list_any (λ y. not (number y == number new) && e y new) xs) alone in

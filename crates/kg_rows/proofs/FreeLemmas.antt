@@ -1,7 +1,7 @@
 -- What no other row has is unique, and what isn't lost is there.
-use Rattle.std.proofs.Common.{◌≡◌, ℕ, Bool, true, false, cond, not, ◌&&◌, ◌||◌, ◌==◌, List, [], ◌∷◌, find, Option, None, Some, option_map, option_and_then, codes, if◌then◌else◌, refl, sym, ap, ap₂, ◌∙◌, true≢false}
+use Rattle.std.proofs.Common.{◌≡◌, ℕ, Bool, true, false, cond, not, ◌&&◌, ◌||◌, ◌==◌, List, [], ◌∷◌, find, Option, None, Some, option_map, codes, if◌then◌else◌, refl, sym, ap, ap₂, true≢false}
 use Rattle.std.specs.List.{list_any}
-use Rattle.std.specs.Option.{option_or, option_map_or}
+use Rattle.std.specs.Option.{option_or}
 use Rattle.std.specs.Str.{bytes_eq}
 use Rattle.kg_entities.specs.Entities.{kind_of, id_of_row}
 use Rattle.kg_entities.specs.Lookups.{is_text}

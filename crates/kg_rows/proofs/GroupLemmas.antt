@@ -111,12 +111,12 @@ pub groups_alike : (consumer : ℕ) (own acls : List AclRow) → AreRowsOf consu
 groups_alike consumer own acls are =
     same_sorted nat_list_cmp_total exact_bytes (groups_of consumer own) (groups_of consumer acls) (groups_ordered consumer own) (groups_ordered consumer acls)
     (λ t. in_set consumer own [] t
-      ∙ sym (any_rows (λ x. is_eq (slice_cmp nat_cmp t x)) consumer own)
-      ∙ are (λ row. row.consumer == consumer && is_eq (slice_cmp nat_cmp t row.group))
-      ∙ any_same (λ row. row.consumer == consumer && (row.consumer == consumer && is_eq (slice_cmp nat_cmp t row.group))) (λ row. row.consumer == consumer && is_eq (slice_cmp nat_cmp t row.group))
-        (λ row. and_twice (row.consumer == consumer) (is_eq (slice_cmp nat_cmp t row.group))) acls
-      ∙ any_rows (λ x. is_eq (slice_cmp nat_cmp t x)) consumer acls
-      ∙ sym (in_set consumer acls [] t))
+    ∙ sym (any_rows (λ x. is_eq (slice_cmp nat_cmp t x)) consumer own)
+    ∙ are (λ row. row.consumer == consumer && is_eq (slice_cmp nat_cmp t row.group))
+    ∙ any_same (λ row. row.consumer == consumer && (row.consumer == consumer && is_eq (slice_cmp nat_cmp t row.group))) (λ row. row.consumer == consumer && is_eq (slice_cmp nat_cmp t row.group))
+    (λ row. and_twice (row.consumer == consumer) (is_eq (slice_cmp nat_cmp t row.group))) acls
+    ∙ any_rows (λ x. is_eq (slice_cmp nat_cmp t x)) consumer acls
+    ∙ sym (in_set consumer acls [] t))
 
 -- a membership that another row has stands among the rows of its consumer
 pub taken_alike : (test : AclRow → Bool) (membership : AclRow) (own acls : List AclRow) → AreRowsOf membership.consumer own acls
@@ -124,7 +124,7 @@ pub taken_alike : (test : AclRow → Bool) (membership : AclRow) (own acls : Lis
 taken_alike test membership own acls are =
     are (λ other. test other && same_membership other membership)
     ∙ any_same (λ other. other.consumer == membership.consumer && (test other && same_membership other membership)) (λ other. test other && same_membership other membership)
-      (λ other. by (other.consumer == membership.consumer) (test other) (bytes_eq other.group membership.group)) acls
+    (λ other. by (other.consumer == membership.consumer) (test other) (bytes_eq other.group membership.group)) acls
   where
     by : (a b c : Bool) → (a && (b && (a && c))) ≡ (b && (a && c))
     by true b c = refl

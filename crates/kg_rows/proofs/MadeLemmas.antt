@@ -1,21 +1,13 @@
 -- The kind and the id of a row that a body makes.
-use Rattle.std.proofs.Common.{◌≡◌, ℕ, Option, None, Some, refl, sym, ◌∙◌}
-use Rattle.std.specs.Option.{option_map_or}
+use Rattle.std.proofs.Common.{◌≡◌, ℕ, Option, None, Some, refl, ◌∙◌}
 use Rattle.serde_json.specs.Data.{Data}
 use Rattle.kg_entities.specs.Entities.{kind_of, id_of_row}
-use Rattle.kg_entities.specs.RowLists.{RowLists}
-use Rattle.kg_entities.specs.declared.consumer.AclRow.{AclRow}
-use Rattle.kg_entities.specs.declared.consumer.BasicCred.{BasicCred}
-use Rattle.kg_entities.specs.declared.consumer.Consumer.{Consumer}
-use Rattle.kg_entities.specs.declared.consumer.KeyCred.{KeyCred}
 use Rattle.kg_entities.specs.declared.entity.Entity.{Entity}
 use Rattle.kg_entities.specs.declared.entity.Entity.TheVariants as row
 use Rattle.kg_entities.specs.declared.entity.Kind.{Kind}
 use Rattle.kg_entities.specs.declared.entity.Kind.TheVariants as kind
-use Rattle.kg_entities.specs.declared.plugin.PluginRow.{PluginRow}
-use Rattle.kg_entities.specs.declared.route.Route.{Route}
 use Rattle.kg_entities.specs.declared.service.Service.{Service}
-use Rattle.kg_schema.specs.Bases.{BaseValue, New, Again, Old, Word, stamps_of}
+use Rattle.kg_schema.specs.Bases.{BaseValue, Again, Old, stamps_of}
 use Rattle.kg_schema.specs.Finished.{acl_before, address_over, basic_before, consumer_before, key_before, plugin_before, route_before, row_over, service_before}
 use Rattle.kg_schema.specs.Settings.{url_at}
 use Rattle.kg_schema.specs.declared.base.Links.{Links}

@@ -1,5 +1,5 @@
 -- Consistent commands leave what rows name there.
-use Rattle.std.proofs.Common.{◌≡◌, ℕ, ◌==◌, Bool, true, false, cond, not, ◌&&◌, ◌||◌, List, [], ◌∷◌, ◌++◌, All, IfSome, filter, Option, Some, None, refl, sym, ap, ap₂, subst, ◌∙◌, true≢false}
+use Rattle.std.proofs.Common.{◌≡◌, ℕ, ◌==◌, Bool, true, false, cond, not, ◌&&◌, ◌||◌, List, [], ◌∷◌, ◌++◌, All, IfSome, filter, Option, Some, None, refl, sym, ap, ◌∙◌}
 use Rattle.std.proofs.lemmas.Bool.{eqb-true}
 use Rattle.std.proofs.lemmas.List.Elements.{All-cons, All-filter, All-head, All-nil, All-push, All-tail}
 use Rattle.std.proofs.lemmas.List.Folds.{list_any-append}
@@ -11,20 +11,17 @@ use Rattle.kg_entities.specs.Tables.{replaced}
 use Rattle.kg_entities.specs.ValidRows.{HasReferences, has_consumer, has_route, has_service}
 use Rattle.kg_entities.specs.declared.consumer.AclRow.{AclRow}
 use Rattle.kg_entities.specs.declared.consumer.BasicCred.{BasicCred}
-use Rattle.kg_entities.specs.declared.consumer.Consumer.{Consumer}
 use Rattle.kg_entities.specs.declared.consumer.KeyCred.{KeyCred}
 use Rattle.kg_entities.specs.declared.entity.Entity.{Entity}
 use Rattle.kg_entities.specs.declared.entity.Entity.TheVariants as row
 use Rattle.kg_entities.specs.declared.entity.Kind.{Kind}
 use Rattle.kg_entities.specs.declared.entity.Kind.TheVariants as kind
 use Rattle.kg_entities.specs.declared.plugin.PluginRow.{PluginRow}
-use Rattle.kg_entities.specs.declared.plugin.Scope.{Scope}
 use Rattle.kg_entities.specs.declared.route.Route.{Route}
-use Rattle.kg_entities.specs.declared.service.Service.{Service}
 use Rattle.kg_rows.proofs.DistinctLemmas.{both_first, both_second, number_flips, untrue}
 use Rattle.kg_rows.proofs.Searches.{or_left, or_right}
 use Rattle.kg_rows.proofs.ValidKept.{all_replaced}
-use Rattle.kg_rows.specs.Allowed.{has_if_set, has_named_rows, has_scope, is_consistent, is_unique, is_unused}
+use Rattle.kg_rows.specs.Allowed.{has_if_set, has_named_rows, is_consistent, is_unique, is_unused}
 use Rattle.kg_rows.specs.Rows.{changed}
 use Rattle.kg_rows.specs.declared.command.Command.{Command}
 use Rattle.kg_rows.specs.declared.command.Command.TheVariants.{Insert, Update, Delete}
@@ -149,35 +146,76 @@ module _ (rows : RowLists) (refers : HasReferences rows) where
   inserted_refers (row.Service new) named =
       let later = changed (Insert (row.Service new)) rows in
       let stay : ServicesStay later = λ id. any_push (λ r. r.id == id) new rows.services in
-      record refers {
+      record {
         routes = routes_refer later stay;
+        key_creds = refers.key_creds;
+        basic_creds = refers.basic_creds;
+        acls = refers.acls;
         services_of_plugins = plugins_name_services later stay;
+        routes_of_plugins = refers.routes_of_plugins;
+        consumers_of_plugins = refers.consumers_of_plugins;
       }
   inserted_refers (row.Route new) named =
       let later = changed (Insert (row.Route new)) rows in
       let stay : RoutesStay later = λ id. any_push (λ r. r.id == id) new rows.routes in
-      record refers {
+      record {
         routes = All-push (λ (r : Route). has_service r.service rows ≡ true) rows.routes new refers.routes named;
+        key_creds = refers.key_creds;
+        basic_creds = refers.basic_creds;
+        acls = refers.acls;
+        services_of_plugins = refers.services_of_plugins;
         routes_of_plugins = plugins_name_routes later stay;
+        consumers_of_plugins = refers.consumers_of_plugins;
       }
   inserted_refers (row.Consumer new) named =
       let later = changed (Insert (row.Consumer new)) rows in
       let stay : ConsumersStay later = λ id. any_push (λ r. r.id == id) new rows.consumers in
-      record refers {
+      record {
+        routes = refers.routes;
         key_creds = keys_refer later stay;
         basic_creds = basics_refer later stay;
         acls = acls_refer later stay;
+        services_of_plugins = refers.services_of_plugins;
+        routes_of_plugins = refers.routes_of_plugins;
         consumers_of_plugins = plugins_name_consumers later stay;
       }
-  inserted_refers (row.KeyCred new) named = record refers { key_creds = All-push (λ (r : KeyCred). has_consumer r.consumer rows ≡ true) rows.key_creds new refers.key_creds named }
-  inserted_refers (row.BasicCred new) named = record refers { basic_creds = All-push (λ (r : BasicCred). has_consumer r.consumer rows ≡ true) rows.basic_creds new refers.basic_creds named }
-  inserted_refers (row.Acl new) named = record refers { acls = All-push (λ (r : AclRow). has_consumer r.consumer rows ≡ true) rows.acls new refers.acls named }
+  inserted_refers (row.KeyCred new) named = record {
+    routes = refers.routes;
+    key_creds = All-push (λ (r : KeyCred). has_consumer r.consumer rows ≡ true) rows.key_creds new refers.key_creds named;
+    basic_creds = refers.basic_creds;
+    acls = refers.acls;
+    services_of_plugins = refers.services_of_plugins;
+    routes_of_plugins = refers.routes_of_plugins;
+    consumers_of_plugins = refers.consumers_of_plugins;
+  }
+  inserted_refers (row.BasicCred new) named = record {
+    routes = refers.routes;
+    key_creds = refers.key_creds;
+    basic_creds = All-push (λ (r : BasicCred). has_consumer r.consumer rows ≡ true) rows.basic_creds new refers.basic_creds named;
+    acls = refers.acls;
+    services_of_plugins = refers.services_of_plugins;
+    routes_of_plugins = refers.routes_of_plugins;
+    consumers_of_plugins = refers.consumers_of_plugins;
+  }
+  inserted_refers (row.Acl new) named = record {
+    routes = refers.routes;
+    key_creds = refers.key_creds;
+    basic_creds = refers.basic_creds;
+    acls = All-push (λ (r : AclRow). has_consumer r.consumer rows ≡ true) rows.acls new refers.acls named;
+    services_of_plugins = refers.services_of_plugins;
+    routes_of_plugins = refers.routes_of_plugins;
+    consumers_of_plugins = refers.consumers_of_plugins;
+  }
   inserted_refers (row.Plugin new) named =
       let at_service = has_if_set kind.Service new.scope.service rows in
       let at_route = has_if_set kind.Route new.scope.route rows in
       let at_consumer = has_if_set kind.Consumer new.scope.consumer rows in
       let first = both_first (at_service && at_route) at_consumer named in
-      record refers {
+      record {
+        routes = refers.routes;
+        key_creds = refers.key_creds;
+        basic_creds = refers.basic_creds;
+        acls = refers.acls;
         services_of_plugins = All-push (NamesService rows) rows.plugins new refers.services_of_plugins (if_set_named kind.Service rows new.scope.service (both_first at_service at_route first));
         routes_of_plugins = All-push (NamesRoute rows) rows.plugins new refers.routes_of_plugins (if_set_named kind.Route rows new.scope.route (both_second at_service at_route first));
         consumers_of_plugins = All-push (NamesConsumer rows) rows.plugins new refers.consumers_of_plugins (if_set_named kind.Consumer rows new.scope.consumer (both_second (at_service && at_route) at_consumer named));
@@ -189,36 +227,77 @@ module _ (rows : RowLists) (refers : HasReferences rows) where
   updated_refers (row.Service new) named =
       let later = changed (Update (row.Service new)) rows in
       let stay : ServicesStay later = λ id there. number_replaced (λ r. r.id) new id rows.services ∙ there in
-      record refers {
+      record {
         routes = routes_refer later stay;
+        key_creds = refers.key_creds;
+        basic_creds = refers.basic_creds;
+        acls = refers.acls;
         services_of_plugins = plugins_name_services later stay;
+        routes_of_plugins = refers.routes_of_plugins;
+        consumers_of_plugins = refers.consumers_of_plugins;
       }
   updated_refers (row.Route new) named =
       let later = changed (Update (row.Route new)) rows in
       let stay : RoutesStay later = λ id there. number_replaced (λ r. r.id) new id rows.routes ∙ there in
-      record refers {
+      record {
         routes = all_replaced (λ (r : Route). has_service r.service rows ≡ true) (λ r. r.id == new.id) new named rows.routes refers.routes;
+        key_creds = refers.key_creds;
+        basic_creds = refers.basic_creds;
+        acls = refers.acls;
+        services_of_plugins = refers.services_of_plugins;
         routes_of_plugins = plugins_name_routes later stay;
+        consumers_of_plugins = refers.consumers_of_plugins;
       }
   updated_refers (row.Consumer new) named =
       let later = changed (Update (row.Consumer new)) rows in
       let stay : ConsumersStay later = λ id there. number_replaced (λ r. r.id) new id rows.consumers ∙ there in
-      record refers {
+      record {
+        routes = refers.routes;
         key_creds = keys_refer later stay;
         basic_creds = basics_refer later stay;
         acls = acls_refer later stay;
+        services_of_plugins = refers.services_of_plugins;
+        routes_of_plugins = refers.routes_of_plugins;
         consumers_of_plugins = plugins_name_consumers later stay;
       }
-  updated_refers (row.KeyCred new) named = record refers { key_creds = all_replaced (λ (r : KeyCred). has_consumer r.consumer rows ≡ true) (λ r. r.id == new.id) new named rows.key_creds refers.key_creds }
-  updated_refers (row.BasicCred new) named = record refers { basic_creds = all_replaced (λ (r : BasicCred). has_consumer r.consumer rows ≡ true) (λ r. r.id == new.id) new named rows.basic_creds refers.basic_creds }
-  updated_refers (row.Acl new) named = record refers { acls = all_replaced (λ (r : AclRow). has_consumer r.consumer rows ≡ true) (λ r. r.id == new.id) new named rows.acls refers.acls }
+  updated_refers (row.KeyCred new) named = record {
+    routes = refers.routes;
+    key_creds = all_replaced (λ (r : KeyCred). has_consumer r.consumer rows ≡ true) (λ r. r.id == new.id) new named rows.key_creds refers.key_creds;
+    basic_creds = refers.basic_creds;
+    acls = refers.acls;
+    services_of_plugins = refers.services_of_plugins;
+    routes_of_plugins = refers.routes_of_plugins;
+    consumers_of_plugins = refers.consumers_of_plugins;
+  }
+  updated_refers (row.BasicCred new) named = record {
+    routes = refers.routes;
+    key_creds = refers.key_creds;
+    basic_creds = all_replaced (λ (r : BasicCred). has_consumer r.consumer rows ≡ true) (λ r. r.id == new.id) new named rows.basic_creds refers.basic_creds;
+    acls = refers.acls;
+    services_of_plugins = refers.services_of_plugins;
+    routes_of_plugins = refers.routes_of_plugins;
+    consumers_of_plugins = refers.consumers_of_plugins;
+  }
+  updated_refers (row.Acl new) named = record {
+    routes = refers.routes;
+    key_creds = refers.key_creds;
+    basic_creds = refers.basic_creds;
+    acls = all_replaced (λ (r : AclRow). has_consumer r.consumer rows ≡ true) (λ r. r.id == new.id) new named rows.acls refers.acls;
+    services_of_plugins = refers.services_of_plugins;
+    routes_of_plugins = refers.routes_of_plugins;
+    consumers_of_plugins = refers.consumers_of_plugins;
+  }
   updated_refers (row.Plugin new) named =
       let at_service = has_if_set kind.Service new.scope.service rows in
       let at_route = has_if_set kind.Route new.scope.route rows in
       let at_consumer = has_if_set kind.Consumer new.scope.consumer rows in
       let first = both_first (at_service && at_route) at_consumer named in
       let same : PluginRow → Bool = λ r. r.id == new.id in
-      record refers {
+      record {
+        routes = refers.routes;
+        key_creds = refers.key_creds;
+        basic_creds = refers.basic_creds;
+        acls = refers.acls;
         services_of_plugins = all_replaced (NamesService rows) same new (if_set_named kind.Service rows new.scope.service (both_first at_service at_route first)) rows.plugins refers.services_of_plugins;
         routes_of_plugins = all_replaced (NamesRoute rows) same new (if_set_named kind.Route rows new.scope.route (both_second at_service at_route first)) rows.plugins refers.routes_of_plugins;
         consumers_of_plugins = all_replaced (NamesConsumer rows) same new (if_set_named kind.Consumer rows new.scope.consumer (both_second (at_service && at_route) at_consumer named)) rows.plugins refers.consumers_of_plugins;
@@ -231,8 +310,11 @@ module _ (rows : RowLists) (refers : HasReferences rows) where
       let later = changed (Delete kind.Service id) rows in
       let stay : (other : ℕ) → (other == id) ≡ false → has_service other rows ≡ true → has_service other later ≡ true = λ other apart. number_left (λ r. r.id) id other apart rows.services in
       let unnamed : PluginRow → Bool = λ plugin. not (names_row kind.Service id plugin) in
-      record refers {
+      record {
         routes = all_failing (λ r. r.service == id) (λ (r : Route). has_service r.service rows ≡ true) (λ r. has_service r.service later ≡ true) (λ r. stay r.service) rows.routes (untrue _ unused) refers.routes;
+        key_creds = refers.key_creds;
+        basic_creds = refers.basic_creds;
+        acls = refers.acls;
         services_of_plugins = all_left unnamed (NamesService rows) (NamesService later) (λ r. if_set_left id (λ other. has_service other rows ≡ true) (λ other. has_service other later ≡ true) stay r.scope.service) rows.plugins refers.services_of_plugins;
         routes_of_plugins = All-filter unnamed (NamesRoute rows) rows.plugins refers.routes_of_plugins;
         consumers_of_plugins = All-filter unnamed (NamesConsumer rows) rows.plugins refers.consumers_of_plugins;
@@ -241,8 +323,11 @@ module _ (rows : RowLists) (refers : HasReferences rows) where
       let later = changed (Delete kind.Route id) rows in
       let stay : (other : ℕ) → (other == id) ≡ false → has_route other rows ≡ true → has_route other later ≡ true = λ other apart. number_left (λ r. r.id) id other apart rows.routes in
       let unnamed : PluginRow → Bool = λ plugin. not (names_row kind.Route id plugin) in
-      record refers {
+      record {
         routes = All-filter (λ r. not (r.id == id)) (λ (r : Route). has_service r.service rows ≡ true) rows.routes refers.routes;
+        key_creds = refers.key_creds;
+        basic_creds = refers.basic_creds;
+        acls = refers.acls;
         services_of_plugins = All-filter unnamed (NamesService rows) rows.plugins refers.services_of_plugins;
         routes_of_plugins = all_left unnamed (NamesRoute rows) (NamesRoute later) (λ r. if_set_left id (λ other. has_route other rows ≡ true) (λ other. has_route other later ≡ true) stay r.scope.route) rows.plugins refers.routes_of_plugins;
         consumers_of_plugins = All-filter unnamed (NamesConsumer rows) rows.plugins refers.consumers_of_plugins;
@@ -251,7 +336,8 @@ module _ (rows : RowLists) (refers : HasReferences rows) where
       let later = changed (Delete kind.Consumer id) rows in
       let stay : (other : ℕ) → (other == id) ≡ false → has_consumer other rows ≡ true → has_consumer other later ≡ true = λ other apart. number_left (λ r. r.id) id other apart rows.consumers in
       let unnamed : PluginRow → Bool = λ plugin. not (names_row kind.Consumer id plugin) in
-      record refers {
+      record {
+        routes = refers.routes;
         key_creds = all_left (λ r. not (r.consumer == id)) (λ (r : KeyCred). has_consumer r.consumer rows ≡ true) (λ r. has_consumer r.consumer later ≡ true) (λ r apart. stay r.consumer (untrue (r.consumer == id) apart)) rows.key_creds refers.key_creds;
         basic_creds = all_left (λ r. not (r.consumer == id)) (λ (r : BasicCred). has_consumer r.consumer rows ≡ true) (λ r. has_consumer r.consumer later ≡ true) (λ r apart. stay r.consumer (untrue (r.consumer == id) apart)) rows.basic_creds refers.basic_creds;
         acls = all_left (λ r. not (r.consumer == id)) (λ (r : AclRow). has_consumer r.consumer rows ≡ true) (λ r. has_consumer r.consumer later ≡ true) (λ r apart. stay r.consumer (untrue (r.consumer == id) apart)) rows.acls refers.acls;
@@ -259,12 +345,40 @@ module _ (rows : RowLists) (refers : HasReferences rows) where
         routes_of_plugins = All-filter unnamed (NamesRoute rows) rows.plugins refers.routes_of_plugins;
         consumers_of_plugins = all_left unnamed (NamesConsumer rows) (NamesConsumer later) (λ r. if_set_left id (λ other. has_consumer other rows ≡ true) (λ other. has_consumer other later ≡ true) stay r.scope.consumer) rows.plugins refers.consumers_of_plugins;
       }
-  deleted_refers kind.KeyCred id unused = record refers { key_creds = All-filter (λ r. not (r.id == id)) (λ (r : KeyCred). has_consumer r.consumer rows ≡ true) rows.key_creds refers.key_creds }
-  deleted_refers kind.BasicCred id unused = record refers { basic_creds = All-filter (λ r. not (r.id == id)) (λ (r : BasicCred). has_consumer r.consumer rows ≡ true) rows.basic_creds refers.basic_creds }
-  deleted_refers kind.Acl id unused = record refers { acls = All-filter (λ r. not (r.id == id)) (λ (r : AclRow). has_consumer r.consumer rows ≡ true) rows.acls refers.acls }
+  deleted_refers kind.KeyCred id unused = record {
+    routes = refers.routes;
+    key_creds = All-filter (λ r. not (r.id == id)) (λ (r : KeyCred). has_consumer r.consumer rows ≡ true) rows.key_creds refers.key_creds;
+    basic_creds = refers.basic_creds;
+    acls = refers.acls;
+    services_of_plugins = refers.services_of_plugins;
+    routes_of_plugins = refers.routes_of_plugins;
+    consumers_of_plugins = refers.consumers_of_plugins;
+  }
+  deleted_refers kind.BasicCred id unused = record {
+    routes = refers.routes;
+    key_creds = refers.key_creds;
+    basic_creds = All-filter (λ r. not (r.id == id)) (λ (r : BasicCred). has_consumer r.consumer rows ≡ true) rows.basic_creds refers.basic_creds;
+    acls = refers.acls;
+    services_of_plugins = refers.services_of_plugins;
+    routes_of_plugins = refers.routes_of_plugins;
+    consumers_of_plugins = refers.consumers_of_plugins;
+  }
+  deleted_refers kind.Acl id unused = record {
+    routes = refers.routes;
+    key_creds = refers.key_creds;
+    basic_creds = refers.basic_creds;
+    acls = All-filter (λ r. not (r.id == id)) (λ (r : AclRow). has_consumer r.consumer rows ≡ true) rows.acls refers.acls;
+    services_of_plugins = refers.services_of_plugins;
+    routes_of_plugins = refers.routes_of_plugins;
+    consumers_of_plugins = refers.consumers_of_plugins;
+  }
   deleted_refers kind.Plugin id unused =
       let stays : PluginRow → Bool = λ r. not (r.id == id) in
-      record refers {
+      record {
+        routes = refers.routes;
+        key_creds = refers.key_creds;
+        basic_creds = refers.basic_creds;
+        acls = refers.acls;
         services_of_plugins = All-filter stays (NamesService rows) rows.plugins refers.services_of_plugins;
         routes_of_plugins = All-filter stays (NamesRoute rows) rows.plugins refers.routes_of_plugins;
         consumers_of_plugins = All-filter stays (NamesConsumer rows) rows.plugins refers.consumers_of_plugins;

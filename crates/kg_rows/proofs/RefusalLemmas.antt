@@ -1,5 +1,5 @@
 -- Broken rules are told as a violation.
-use Rattle.std.proofs.Common.{◌≡◌, ◌≢◌, List, [], ◌∷◌, Option, Some, refl}
+use Rattle.std.proofs.Common.{◌≡◌, ◌≢◌, List, [], ◌∷◌, Some, refl}
 use Rattle.kg_rows.specs.Decision.{violation}
 use Rattle.kg_rows.specs.declared.draft.Refusal.TheVariants.{Violation}
 use Rattle.kg_schema.specs.Rules.{Fault, in_order, listed}

@@ -1,5 +1,5 @@
 -- What is decided at valid rows puts a valid row.
-use Rattle.std.proofs.Common.{◌≡◌, ◌⊎◌, inl, inr, ⊎_elim, ℕ, ◌/◌, ◌==◌, Bool, true, false, cond, IsTrue, List, [], ◌∷◌, All, filter, find, Option, None, Some, option_map, option_and_then, Result, Ok, Err, IfOk, if◌then◌else◌, refl, sym, ap, subst, ◌∙◌, true≢false}
+use Rattle.std.proofs.Common.{◌≡◌, ◌⊎◌, inl, inr, ⊎_elim, ℕ, ◌/◌, ◌==◌, Bool, true, false, cond, List, [], ◌∷◌, All, find, Option, None, Some, option_map, option_and_then, Result, Ok, Err, IfOk, if◌then◌else◌, refl, ap, subst, true≢false}
 use Rattle.std.proofs.lemmas.List.Elements.{All-filter, All-head, All-tail}
 use Rattle.std.specs.Option.{option_or}
 use Rattle.std.specs.Str.{bytes_eq}
@@ -13,25 +13,20 @@ use Rattle.kg_entities.specs.RowLists.{RowLists}
 use Rattle.kg_entities.specs.ValidRows.{AreValidRows, IsValidAcl, IsValidBasicCred, IsValidConsumer, IsValidKeyCred, IsValidPlugin, IsValidRoute, IsValidRow, IsValidService}
 use Rattle.kg_entities.specs.declared.consumer.AclRow.{AclRow}
 use Rattle.kg_entities.specs.declared.consumer.BasicCred.{BasicCred}
-use Rattle.kg_entities.specs.declared.consumer.Consumer.{Consumer}
 use Rattle.kg_entities.specs.declared.consumer.KeyCred.{KeyCred}
 use Rattle.kg_entities.specs.declared.entity.Entity.{Entity}
 use Rattle.kg_entities.specs.declared.entity.Entity.TheVariants as row
 use Rattle.kg_entities.specs.declared.entity.Kind.{Kind}
 use Rattle.kg_entities.specs.declared.entity.Kind.TheVariants as kind
-use Rattle.kg_entities.specs.declared.plugin.PluginRow.{PluginRow}
-use Rattle.kg_entities.specs.declared.route.Route.{Route}
-use Rattle.kg_entities.specs.declared.service.Service.{Service}
-use Rattle.kg_rows.specs.Decision.{and_then, base_by, base_by_text, base_by_word, conflict, Decides, decision, deletion, full, inserted, insertion, needed, patched, proposed, put, put_over, replaced, still_named, unless, violation}
+use Rattle.kg_rows.specs.Decision.{base_by, base_by_text, base_by_word, conflict, Decides, decision, deletion, full, inserted, insertion, needed, patched, proposed, put, put_over, replaced, still_named, unless, violation}
 use Rattle.kg_rows.specs.References.{link_of, links_in, meant_in, strange_field}
-use Rattle.kg_rows.specs.Selections.{is_owned_under, is_route_under, place_of, row_with_id, row_with_word, rows_in, rows_under, selected}
+use Rattle.kg_rows.specs.Selections.{is_owned_under, is_route_under, place_of, row_with_id, row_with_word, rows_in, selected}
 use Rattle.kg_rows.specs.ValidCommands.{IsValidCommand}
 use Rattle.kg_rows.specs.declared.command.Command.{Command}
 use Rattle.kg_rows.specs.declared.command.Command.TheVariants as command
 use Rattle.kg_rows.specs.declared.draft.DecideError.{DecideError}
 use Rattle.kg_rows.specs.declared.draft.Draft.{Draft}
 use Rattle.kg_rows.specs.declared.draft.Draft.TheVariants.{Insert, Patch, Put, Delete}
-use Rattle.kg_rows.specs.declared.draft.Refusal.{Refusal}
 use Rattle.kg_rows.specs.declared.place.Place.{Place}
 use Rattle.kg_rows.specs.declared.place.Place.TheVariants.{Anywhere, Under}
 use Rattle.kg_rows.specs.declared.select.Parent.{Parent}

@@ -2,8 +2,8 @@
 -- or the row isn't there; rules between the fields are broken; a row that is named isn't there, or the
 -- deleted row is still named; something is taken; the kind is full (Kong Admin API; the order is this
 -- project's own).
-use Rattle.std.specs.Prelude.{◌≡◌, ℕ, ◌/◌, Bool, true, false, not, nat_lt, List, [], ◌∷◌, codes, Option, Some, None, option_map, Result, Ok, Err, if◌then◌else◌, IsTrue, IfSome, ⊤}
-use Rattle.std.specs.Option.{option_or, option_map_or}
+use Rattle.std.specs.Prelude.{◌≡◌, ℕ, ◌/◌, Bool, true, false, nat_lt, List, [], ◌∷◌, codes, Option, Some, None, option_map, Result, Ok, Err, if◌then◌else◌, IsTrue, IfSome, ⊤}
+use Rattle.std.specs.Option.{option_or}
 use Rattle.serde_json.specs.Data.{Data}
 use Rattle.serde_json.specs.View.{view}
 use Rattle.kg_entities.specs.Entities.{id_of_row}
@@ -35,7 +35,6 @@ use Rattle.kg_schema.specs.Between.{accepts_word, faults_between}
 use Rattle.kg_schema.specs.Finished.{row_over}
 use Rattle.kg_schema.specs.Rules.{Fault, in_order, listed}
 use Rattle.kg_schema.specs.declared.base.Links.{Links}
-use Rattle.kg_schema.specs.declared.form.Form.{Form}
 
 -- ---- steps
 

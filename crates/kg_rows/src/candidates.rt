@@ -7,7 +7,9 @@ ghost use Rattle.kg_entities.specs.declared.key.Key.{Key as Asked};
 ghost use Rattle.kg_rows.specs.Candidates.{candidates, keys_of, keys_of_id, keys_below, keys_of_credentials, consumer_keys, cred_keys, basic_keys, acl_keys};
 
 use crate::command::Command;
-use kg_entities::{AclRow, BasicCred, Consumer, Entity, Id, Key, KeyCred, Kind, Owned, Row, Rows, RowTable};
+use kg_entities::{
+    AclRow, BasicCred, Consumer, Entity, Id, Key, KeyCred, Kind, Owned, Row, RowTable, Rows,
+};
 use kg_text::{NoMemory, TryClone};
 use std::alloc::Global;
 

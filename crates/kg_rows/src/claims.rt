@@ -154,7 +154,9 @@ fn other_service(rows: &Rows, old: Id, name: &Text) -> Option<Id>
 fn service_with_name<'r>(services: &'r [Service], old: Id, name: &Text) -> Option<&'r Service>
     ensures { option_copied result ≡ find (λ other. not (other.id == old) && is_text name.now other.name) services.now }
 {
-    services.iter().find(|other| other.id != old && is_text(&other.name, name))
+    services
+        .iter()
+        .find(|other| other.id != old && is_text(&other.name, name))
 }
 
 fn named_route(rows: &Rows, replaced: Option<Id>, route: &Route) -> Option<Id>
@@ -188,7 +190,9 @@ fn other_route(rows: &Rows, old: Id, name: &Text) -> Option<Id>
 fn route_with_name<'r>(routes: &'r [Route], old: Id, name: &Text) -> Option<&'r Route>
     ensures { option_copied result ≡ find (λ other. not (other.id == old) && is_text name.now other.name) routes.now }
 {
-    routes.iter().find(|other| other.id != old && is_text(&other.name, name))
+    routes
+        .iter()
+        .find(|other| other.id != old && is_text(&other.name, name))
 }
 
 fn username_holder(rows: &Rows, replaced: Option<Id>, consumer: &Consumer) -> Option<Id>
@@ -219,10 +223,16 @@ fn other_with_username(rows: &Rows, old: Id, name: &Text) -> Option<Id>
     None
 }
 
-fn consumer_with_username<'r>(consumers: &'r [Consumer], old: Id, name: &Text) -> Option<&'r Consumer>
+fn consumer_with_username<'r>(
+    consumers: &'r [Consumer],
+    old: Id,
+    name: &Text,
+) -> Option<&'r Consumer>
     ensures { option_copied result ≡ find (λ other. not (other.id == old) && is_text name.now other.username) consumers.now }
 {
-    consumers.iter().find(|other| other.id != old && is_text(&other.username, name))
+    consumers
+        .iter()
+        .find(|other| other.id != old && is_text(&other.username, name))
 }
 
 fn custom_id_holder(rows: &Rows, replaced: Option<Id>, consumer: &Consumer) -> Option<Id>
@@ -253,10 +263,16 @@ fn other_with_custom_id(rows: &Rows, old: Id, text: &Text) -> Option<Id>
     None
 }
 
-fn consumer_with_custom_id<'r>(consumers: &'r [Consumer], old: Id, text: &Text) -> Option<&'r Consumer>
+fn consumer_with_custom_id<'r>(
+    consumers: &'r [Consumer],
+    old: Id,
+    text: &Text,
+) -> Option<&'r Consumer>
     ensures { option_copied result ≡ find (λ other. not (other.id == old) && is_text text.now other.custom_id) consumers.now }
 {
-    consumers.iter().find(|other| other.id != old && is_text(&other.custom_id, text))
+    consumers
+        .iter()
+        .find(|other| other.id != old && is_text(&other.custom_id, text))
 }
 
 fn key_holder(rows: &Rows, replaced: Option<Id>, cred: &KeyCred) -> Option<Id>
@@ -281,7 +297,9 @@ fn other_key(rows: &Rows, old: Id, cred: &KeyCred) -> Option<Id>
 fn with_key<'r>(creds: &'r [KeyCred], old: Id, cred: &KeyCred) -> Option<&'r KeyCred>
     ensures { option_copied result ≡ find (λ other. not (other.id == old) && bytes_eq other.key cred.now.key) creds.now }
 {
-    creds.iter().find(|other| other.id != old && other.key == cred.key)
+    creds
+        .iter()
+        .find(|other| other.id != old && other.key == cred.key)
 }
 
 fn login_holder(rows: &Rows, replaced: Option<Id>, cred: &BasicCred) -> Option<Id>
@@ -306,7 +324,9 @@ fn other_login(rows: &Rows, old: Id, cred: &BasicCred) -> Option<Id>
 fn with_login<'r>(creds: &'r [BasicCred], old: Id, cred: &BasicCred) -> Option<&'r BasicCred>
     ensures { option_copied result ≡ find (λ other. not (other.id == old) && bytes_eq other.username cred.now.username) creds.now }
 {
-    creds.iter().find(|other| other.id != old && other.username == cred.username)
+    creds
+        .iter()
+        .find(|other| other.id != old && other.username == cred.username)
 }
 
 fn group_holder(rows: &Rows, replaced: Option<Id>, membership: &AclRow) -> Option<Id>

@@ -161,18 +161,8 @@ fn row_with_id(
         Kind::Service => service_row(alloc, rows.services().get(id)),
         Kind::Route => route_row(alloc, with_id(rows.routes(), upper, above, id)),
         Kind::Consumer => consumer_row(alloc, rows.consumers().get(id)),
-        Kind::KeyCred => {
-            key_cred_row(
-                alloc,
-                with_id(rows.key_creds(), upper, above, id),
-            )
-        }
-        Kind::BasicCred => {
-            basic_cred_row(
-                alloc,
-                with_id(rows.basic_creds(), upper, above, id),
-            )
-        }
+        Kind::KeyCred => { key_cred_row(alloc, with_id(rows.key_creds(), upper, above, id)) }
+        Kind::BasicCred => { basic_cred_row(alloc, with_id(rows.basic_creds(), upper, above, id)) }
         Kind::Acl => acl_row(alloc, with_id(rows.acls(), upper, above, id)),
         Kind::Plugin => plugin_row(alloc, with_id(rows.plugins(), upper, above, id)),
     }
@@ -274,7 +264,7 @@ fn with_id<T: Below>(rows: &RowTable<T>, upper: Kind, above: Id, id: Id) -> Opti
 }
 
 fn if_below<T: Below>(found: Option<&T>, upper: Kind, above: Id) -> Option<&T>
-    ensures { option_copied result ≡ find (T.below upper above) (option_to_list (option_copied found)) }
+    ensures { option_copied result ≡ find (T.below upper above) (option_to_list (option_copied found.entry)) }
 {
     match found {
         Some(row) => {

@@ -132,18 +132,6 @@ fn a_service_is_made(rt: HostRuntime) -> Result<(), Fail> {
     Ok(())
 }
 
-#[test]
-fn a_taken_name_is_refused_before_a_full_kind(rt: HostRuntime) -> Result<(), Fail> {
-    let alloc = rt.alloc();
-    let rows = with_service(alloc)?;
-    let again = post(alloc, Kind::Service, r#"{"name":"a","host":"h"}"#, 2)?;
-    let decided = decide(alloc, &rows, &again, 1);
-    assert!(rt; decided == refused(taken(alloc, "name", id(1))?));
-    let other = post(alloc, Kind::Service, r#"{"name":"b","host":"h"}"#, 2)?;
-    assert!(rt; decide(alloc, &rows, &other, 1) == refused(Refusal::Full));
-    Ok(())
-}
-
 // What is told of a refusal.
 fn told(decided: Result<Command, DecideError>) -> &'static str {
     match decided {
@@ -221,24 +209,6 @@ fn a_service_that_a_route_names_stays(rt: HostRuntime) -> Result<(), Fail> {
 }
 
 #[test]
-fn a_consumer_is_deleted_by_its_username(rt: HostRuntime) -> Result<(), Fail> {
-    let alloc = rt.alloc();
-    let rows = with_consumers(alloc)?;
-    let command = decide(
-        alloc,
-        &rows,
-        &delete(alloc, Kind::Consumer, "alice")?,
-        LIMIT,
-    )?;
-    let wanted = Command::Delete {
-        kind: Kind::Consumer,
-        id: id(3),
-    };
-    assert!(rt; command == wanted);
-    Ok(())
-}
-
-#[test]
 fn the_first_missing_reference_is_told(rt: HostRuntime) -> Result<(), Fail> {
     let alloc = rt.alloc();
     let rows = with_service(alloc)?;
@@ -254,15 +224,6 @@ fn the_first_missing_reference_is_told(rt: HostRuntime) -> Result<(), Fail> {
         let decided = decide(alloc, &rows, &draft, LIMIT);
         assert!(rt; decided == refused(foreign(alloc, field, false)?), "{body}");
     }
-    Ok(())
-}
-
-#[test]
-fn a_violation_comes_before_a_missing_reference(rt: HostRuntime) -> Result<(), Fail> {
-    let alloc = rt.alloc();
-    let draft = post(alloc, Kind::Route, r#"{"service":"b"}"#, 2)?;
-    let decided = decide(alloc, &Rows::new(alloc), &draft, LIMIT);
-    assert_eq!(rt; first_path(alloc, decided)?.as_str(), "paths");
     Ok(())
 }
 

@@ -1,8 +1,8 @@
-use Rattle.std.proofs.Common.{[], ◌++◌, All, Ok, length, refl, ap, subst, ◌∙◌}
+use Rattle.std.proofs.Common.{[], ◌++◌, All, Ok, length, refl, sym, ap, subst, ◌∙◌}
 use Rattle.kg_declare.specs.Outcome.{outcome, with_rows}
 use Rattle.kg_declare.specs.Rows.{Stands}
 use Rattle.kg_declare.specs.SeenRows.{seen_all}
-use Rattle.kg_declare.specs.Steps.{progress_at}
+use Rattle.kg_declare.specs.Steps.{progress_after, progress_at}
 use Rattle.kg_declare.proofs.ProgressLemmas.{at_commands, faultless_inserted, from_start, refused_later}
 use Rattle.kg_declare.proofs.StandLemmas.{rows_stand}
 use Rattle.kg_declare.proofs.line.declare.Goals as goal
@@ -27,21 +27,19 @@ returns-in-Ok-insert_rows-clause-outcome g c =
       answers = λ more.
           faultless_inserted c.args.line.now rows c.args.now c.args.limit (drawn ++ more) c.in-Ok.ensures.ok
           ∙ from_start (drawn ++ more) c.args.now c.args.limit rows c.new-made.result _ c.new-made.ensures.start (c.in-Ok-insert_rows.ensures.steps.leaves more)
-          ∙ ap Ok (at_commands c.args.limit c.insert_rows.new.made (length drawn) (c.in-Ok-insert_rows.ensures.consistent (c.new-made.ensures.consistent c.args.limit)));
+          ∙ ap Ok (at_commands c.args.limit c.insert_rows.new.made (length drawn) (c.in-Ok-insert_rows.ensures.consistent (c.new-made.ensures.consistent c.args.limit))
+          ∙ ap (λ commands. progress_after commands (length drawn)) (sym c.commands_of.ensures.commands));
     }
 
 pub returns-in-Ok-insert_rows-clause-commands : goal.returns-in-Ok-insert_rows-clause-commands
 returns-in-Ok-insert_rows-clause-commands g c =
-    let is = c.in-Ok-insert_rows.ensures.consistent (c.new-made.ensures.consistent c.args.limit) in
-    let law = c.allowed_commands_make_valid_rows.ensures in
-    let commands = c.insert_rows.new.made.commands in
-    record {
-      inserts = is.inserts;
-      allowed = is.allowed;
-      valid = law.valid commands c.args.limit is.allowed;
-      distinct = law.distinct commands c.args.limit is.allowed;
-      references = law.references commands c.args.limit is.allowed;
-    }
+    c.commands_of.ensures.insertions (c.in-Ok-insert_rows.ensures.consistent (c.new-made.ensures.consistent c.args.limit))
+
+pub returns-in-Err-clause-commands : goal.returns-in-Err-clause-commands
+returns-in-Err-clause-commands g c = tt
+
+pub returns-in-Err-insert_rows-clause-commands : goal.returns-in-Err-insert_rows-clause-commands
+returns-in-Err-insert_rows-clause-commands g c = tt
 
 pub returns-in-Err-insert_rows-clause-outcome : goal.returns-in-Err-insert_rows-clause-outcome
 returns-in-Err-insert_rows-clause-outcome g c =

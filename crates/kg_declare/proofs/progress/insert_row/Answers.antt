@@ -10,8 +10,8 @@ use Rattle.kg_declare.proofs.ProgressLemmas.{nothing_more, row_refused, row_step
 use Rattle.kg_declare.proofs.StandLemmas.{can_stand}
 use Rattle.kg_declare.proofs.progress.insert_row.Goals as goal
 
-pub insert-requires-proper : goal.insert-requires-proper
-insert-requires-proper g c = (
+pub insert-requires-clause-proper : goal.insert-requires-clause-proper
+insert-requires-clause-proper g c = (
   c.in-Ok.ensures.kind,
   subst (λ parent. CanStandUnder c.args.row.kind parent) (sym c.parent_of-parent.ensures) (can_stand c.args.made.now.rows (seen c.args.row) c.requires),
 )

@@ -1,4 +1,4 @@
-use Rattle.std.proofs.Common.{◌+◌, ◌≤◌, length, All}
+use Rattle.std.proofs.Common.{◌≤◌, length, All}
 use Rattle.indexmap.specs.IndexSet.{spare}
 use Rattle.kg_rows.specs.Watching.{Differ, IsOrderly}
 use Rattle.kg_rows.proofs.watch.differing.Given as goal
