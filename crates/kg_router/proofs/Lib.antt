@@ -3,5 +3,4 @@ mod PlaceLemmas
 mod RouteOrder
 mod Search
 pub mod TableLemmas
-mod TestRoutes
 mod ValidPaths

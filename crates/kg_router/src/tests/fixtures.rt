@@ -1,13 +1,7 @@
 //! Rows for tests.
 
-ghost use Rattle.std.specs.Prelude.{◌≡◌, IfOk};
-ghost use Rattle.kg_entities.specs.ValidRows.{IsValidRoute};
-
-use crate::generation::RouterGen;
-use kg_entities::{HeaderTest, Id, Route, Service};
-use kg_match::RouteTest;
-use kg_message::{Headers, Request};
-use kg_text::{Bytes, List, Name, NoMemory, Text};
+use kg_entities::{HeaderTest, Id, Route};
+use kg_text::{List, Name, NoMemory, Text};
 use std::alloc::Global;
 use std::test::Fail;
 
@@ -149,8 +143,8 @@ pub fn pair(comparison: u8) -> (Shape<'static>, Shape<'static>) {
     }
 }
 
-/// An id, in the order of its last byte.
-pub fn id(last: u8) -> Id {
+// An id, in the order of its last byte.
+fn id(last: u8) -> Id {
     Id::from_drawn([0, 0, 0, 0, 0, 0, 0, 0, 0, 0, 0, 0, 0, 0, 0, last])
 }
 
@@ -186,102 +180,4 @@ pub fn route(alloc: Global, shape: Shape<'_>) -> Result<Route, Fail> {
         created_at: shape.created_at,
         updated_at: shape.created_at,
     })
-}
-
-fn service(alloc: Global, last: u8, enabled: bool) -> Result<Service, NoMemory> {
-    Ok(Service {
-        id: id(last),
-        name: None,
-        host: Text::from_str(alloc, "s.example")?,
-        port: 80,
-        path: None,
-        retries: 5,
-        enabled,
-        created_at: 0,
-        updated_at: 0,
-    })
-}
-
-/// Two services: 1, which is enabled, and 2, which isn't.
-pub fn services(alloc: Global) -> Result<List<Service>, NoMemory> {
-    let mut services = List::new(alloc);
-    services.push(service(alloc, 1, true)?)?;
-    services.push(service(alloc, 2, false)?)?;
-    Ok(services)
-}
-
-/// A GET of this path, with this Host.
-pub fn request(alloc: Global, host: &str, path: &str) -> Result<Request, NoMemory> {
-    Ok(Request {
-        method: Bytes::from_slice(alloc, b"GET")?,
-        path: Text::from_str(alloc, path)?,
-        query: None,
-        minor: 1,
-        host: Bytes::from_slice(alloc, host.as_bytes())?,
-        headers: Headers::new(alloc),
-        body: Bytes::new(alloc),
-        framed: false,
-        address: [127, 0, 0, 1],
-    })
-}
-
-fn test_of(alloc: Global, shape: Shape<'_>) -> Result<RouteTest, Fail> {
-    match RouteTest::build(alloc, &route(alloc, shape)?) {
-        Ok(test) => Ok(test),
-        Err(_) => Err(Fail::from("the route is refused")),
-    }
-}
-
-/// A router of two routes of these shapes, of revision 7.
-#[tactic(auto, unfolding(std::specs::List::IsDistinct))]
-pub fn router(alloc: Global, first: Shape<'_>, second: Shape<'_>) -> Result<RouterGen, Fail> {
-    let first = test_of(alloc, first)?;
-    let second = test_of(alloc, second)?;
-    if first.route().id == second.route().id {
-        return Err(Fail::from("the routes have one id"));
-    }
-    let mut tests = List::new(alloc);
-    tests.push(first)?;
-    tests.push(second)?;
-    let router = RouterGen::of_tests(alloc, 7, services(alloc)?, tests)?;
-    Ok(router)
-}
-
-// A route for GET to the service of id 1.
-#[tactic(auto, using(crate::proofs::TestRoutes::valid_by_method))]
-fn valid_route(alloc: Global, id: Id, service: Id) -> Result<Route, NoMemory>
-    ensures { IfOk result (λ route. IsValidRoute route × (route.id ≡ id)) }
-{
-    let mut methods = List::new(alloc);
-    methods.push(Text::from_str(alloc, "GET")?)?;
-    Ok(Route {
-        id,
-        name: None,
-        service,
-        https: true,
-        methods,
-        hosts: List::new(alloc),
-        paths: List::new(alloc),
-        headers: List::new(alloc),
-        regex_priority: 0,
-        strip_path: true,
-        preserve_host: false,
-        created_at: 0,
-        updated_at: 0,
-    })
-}
-
-/// A router of two valid routes, of the ids 3 and 2, of revision 7.
-#[tactic(auto, unfolding(std::specs::List::IsDistinct))]
-pub fn valid_router(alloc: Global) -> Result<RouterGen, Fail> {
-    let first = valid_route(alloc, id(3), id(1))?;
-    let second = valid_route(alloc, id(2), id(1))?;
-    if first.id == second.id {
-        return Err(Fail::from("the routes have one id"));
-    }
-    let mut routes = List::new(alloc);
-    routes.push(first)?;
-    routes.push(second)?;
-    let router = RouterGen::build(alloc, 7, &services(alloc)?, &routes)?;
-    Ok(router)
 }
