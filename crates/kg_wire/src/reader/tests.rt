@@ -190,6 +190,24 @@ fn heads_have_at_most_65536_bytes(rt: HostRuntime) -> Result<(), Fail> {
 }
 
 #[test]
+fn heads_have_as_many_fields_as_they_hold(rt: HostRuntime) -> Result<(), Fail> {
+    let alloc = rt.alloc();
+    let mut bytes = Vec::from_slice(alloc, b"GET / HTTP/1.1\r\nHost: a\r\n")?;
+    for _ in 0..300 {
+        bytes.extend_from_slice(b"x:\n")?;
+    }
+    bytes.extend_from_slice(b"\r\n")?;
+    for piece in [1, 64, 4096] {
+        assert_eq!(rt;
+            end_of(alloc, bytes.as_slice(), piece)?,
+            (1, None),
+            "{piece}"
+        );
+    }
+    Ok(())
+}
+
+#[test]
 fn a_fault_is_answered_again(rt: HostRuntime) -> Result<(), Fail> {
     let alloc = rt.alloc();
     let bytes = Bytes::from_slice(alloc, b"GET / HTTP/1.1\r\nHost: a\r\n\r\n")?;
