@@ -1,18 +1,17 @@
 -- What the first line is answered.
-use Rattle.std.proofs.Common.{◌≡◌, ◌≢◌, ℕ, ◌==◌, ◌<◌, ◌≤◌, ◌⊎◌, inl, inr, Bool, true, false, not, List, [], ◌++◌, Option, Some, Result, Ok, Err, IfOk, IfErr, length, refl, sym, ap, subst, ◌∙◌, arith}
+use Rattle.std.proofs.Common.{◌≡◌, ◌≢◌, ℕ, ◌≤◌, true, false, not, List, [], ◌++◌, Option, Result, Ok, Err, IfOk, IfErr, length, refl, sym, ap, subst, ◌∙◌}
 use Rattle.std.specs.Prelude.{nat_lt}
 use Rattle.std.proofs.lemmas.Bool.{le-ltb, lt-ltb}
 use Rattle.kg_declare.specs.Histories.{AreInsertions}
-use Rattle.kg_declare.specs.Outcome.{Progress, Refused, next, outcome}
+use Rattle.kg_declare.specs.Outcome.{Refused, next, outcome}
 use Rattle.kg_declare.specs.Steps.{Answers, progress_after}
 use Rattle.kg_declare.specs.declared.error.DeclareError.{DeclareError}
 use Rattle.kg_declare.specs.declared.error.DeclareError.TheVariants as error
 use Rattle.kg_message.specs.declared.response.Response.{Response}
 use Rattle.kg_outside.specs.Moves.{with_end}
 use Rattle.kg_outside.proofs.Observed.{with_end-nil}
-use Rattle.kg_rows.specs.Rows.{rows_after}
 use Rattle.kg_rows.specs.declared.command.Command.{Command}
-use Rattle.kg_lone.specs.FirstCommands.{AnswersFirst, AnswersLine, Decides, GivesCommands, IsRefusedLine, RefusesWith, WritesFirstFront, WritesRefusal, first_outcome, first_text, most_line, not_built, read_outcome, refusal_line, run_outcome, without_plugins}
+use Rattle.kg_lone.specs.FirstCommands.{AnswersFirst, AnswersLine, Decides, GivesCommands, RefusesWith, first_outcome, first_text, most_line, not_built, read_outcome, refusal_line, run_outcome, without_plugins}
 use Rattle.kg_lone.specs.FirstLine.{GivesLine, line_of}
 use Rattle.kg_lone.specs.Fronts.{IsFront}
 use Rattle.kg_lone.specs.InsertedRows.{has_plugin}

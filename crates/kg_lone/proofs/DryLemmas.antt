@@ -1,6 +1,6 @@
 -- The text of a dry run: it is determined by what was read, and a run that was cut short wrote a front of it.
-use Rattle.std.proofs.Common.{◌≡◌, ◌≢◌, ℕ, ◌+◌, ◌<◌, ◌≤◌, ◌==◌, ◌⊎◌, inl, inr, List, [], ◌∷◌, ◌++◌, Option, Some, None, Result, Ok, Err, length, refl, sym, ap, ◌∙◌, subst, arith}
-use Rattle.std.proofs.lemmas.List.{append_assoc, append-nil, length-append}
+use Rattle.std.proofs.Common.{◌≡◌, ◌≢◌, ℕ, ◌+◌, ◌≤◌, ◌==◌, ◌⊎◌, inl, inr, List, [], ◌∷◌, ◌++◌, Option, Some, None, Result, Ok, Err, length, refl, sym, ap, ◌∙◌, subst, arith}
+use Rattle.std.proofs.lemmas.List.{append_assoc, append-nil}
 use Rattle.std.specs.List.{flat_map}
 use Rattle.kg_outside.specs.Moves.{with_front, with_end}
 use Rattle.kg_outside.proofs.Observed.{with_end-append}
@@ -11,10 +11,10 @@ use Rattle.kg_declare.specs.Outcome.{Progress, Refused as RefusedLine}
 use Rattle.kg_declare.specs.Steps.{progress_after}
 use Rattle.kg_rows.specs.Rows.{rows_after}
 use Rattle.kg_rows.specs.declared.command.Command.{Command}
-use Rattle.kg_lone.specs.Answered.{AnswersAll, AnswersFront, EndsWith, FrontOfReplies}
+use Rattle.kg_lone.specs.Answered.{AnswersFront, EndsWith, FrontOfReplies}
 use Rattle.kg_lone.specs.DryRun.{IsBroken, IsCutShort, IsSameText, IsWhole}
 use Rattle.kg_lone.specs.DryText.{BeginsText, EndsSo, IsDryText, WritesFront, WritesText, last_text, local_address, most_requests, most_rows, status_of, texts}
-use Rattle.kg_lone.specs.FirstCommands.{AnswersFirst, Decides, GivesCommands, IsFirstStatus, WritesFirstFront, WritesRefusal, first_outcome, first_text, refusal_line}
+use Rattle.kg_lone.specs.FirstCommands.{Decides, GivesCommands, IsFirstStatus, WritesFirstFront, WritesRefusal, first_outcome, first_text, refusal_line}
 use Rattle.kg_lone.specs.FirstLine.{line_of, after_line}
 use Rattle.kg_lone.specs.Fronts.{IsFront}
 use Rattle.kg_lone.specs.InsertedRows.{router_rows}
@@ -240,18 +240,24 @@ pub record AreAlike (status : ℕ) (text : List ℕ) (code : ℕ) (other : List 
   pub statuses : status ≡ code
   pub texts : IsSameText status text other
 
--- the texts behind some replies at two ends, which are one or both tell of a broken message
-pub alike_ends : (replies : List ℕ) (end last : End) (status code : ℕ) (text other : List ℕ) → status ≡ status_of end → code ≡ status_of last
-    → text ≡ replies ++ last_text end → other ≡ replies ++ last_text last → (end ≡ last) ⊎ (IsBroken end × IsBroken last)
-    → AreAlike status text code other
-alike_ends replies end last status code text other is also mine yours (inl same) = record {
+-- the texts behind some replies at one end
+same_ends : (replies : List ℕ) (end last : End) (status code : ℕ) (text other : List ℕ) → status ≡ status_of end → code ≡ status_of last
+    → text ≡ replies ++ last_text end → other ≡ replies ++ last_text last → end ≡ last → AreAlike status text code other
+same_ends replies end last status code text other is also mine yours same = record {
   statuses = is ∙ ap status_of same ∙ sym also;
   texts = inl (mine ∙ ap (λ e. replies ++ last_text e) same ∙ sym yours);
 }
+
+-- at two, which are one or both tell of a broken message
+pub alike_ends : (replies : List ℕ) (end last : End) (status code : ℕ) (text other : List ℕ) → status ≡ status_of end → code ≡ status_of last
+    → text ≡ replies ++ last_text end → other ≡ replies ++ last_text last → (end ≡ last) ⊎ (IsBroken end × IsBroken last)
+    → AreAlike status text code other
+alike_ends replies end last status code text other is also mine yours (inl same) =
+    same_ends replies end last status code text other is also mine yours same
 alike_ends replies end last status code text other is also mine yours (inr (inl bad, inl worse)) =
-    alike_ends replies end last status code text other is also mine yours (inl (bad ∙ sym worse))
+    same_ends replies end last status code text other is also mine yours (bad ∙ sym worse)
 alike_ends replies end last status code text other is also mine yours (inr (inr cut, inr short)) =
-    alike_ends replies end last status code text other is also mine yours (inl (cut ∙ sym short))
+    same_ends replies end last status code text other is also mine yours (cut ∙ sym short)
 alike_ends replies end last status code text other is also mine yours (inr (inl bad, inr cut)) =
     let seven : status ≡ 7 = is ∙ ap status_of bad in
     let bare : other ≡ replies = yours ∙ ap (λ e. replies ++ last_text e) cut ∙ append-nil replies in
@@ -332,17 +338,19 @@ not_three status (inl four) = λ three. absurd (omega arith)
 not_three status (inr (inl five)) = λ three. absurd (omega arith)
 not_three status (inr (inr six)) = λ three. absurd (omega arith)
 
-pub refused_whole : (Drew : List (List ℕ) → Type 0) (Read : List ℕ → Type 0) (bytes : List ℕ) (left before after : Option (List ℕ))
+pub refused_whole : (Drew : List (List ℕ) → Type 0) (Read : List ℕ → Type 0) (bytes : List ℕ) (before after : Option (List ℕ))
     (drawn : List (List ℕ)) (time status : ℕ) → Drew drawn → Read (time ∷ []) → IsFirstStatus status → IsWhole status
-    → AnswersFirst time most_rows bytes left before after (Err status) drawn → WritesText Drew Read bytes before after status
-refused_whole Drew Read bytes left before after drawn time status drew read first whole says =
+    → (status ≡ 3 → WritesRefusal time most_rows bytes before after drawn) × (status ≢ 3 → WritesFirstFront time most_rows bytes before after drawn)
+    → WritesText Drew Read bytes before after status
+refused_whole Drew Read bytes before after drawn time status drew read first whole says =
     let three = is_three status first whole in
     subst (WritesText Drew Read bytes before after) (sym three) (refusal_written Drew Read bytes before after drawn time drew read (says.0 three))
 
-pub refused_front : (Drew : List (List ℕ) → Type 0) (Read : List ℕ → Type 0) (bytes : List ℕ) (left before after : Option (List ℕ))
+pub refused_front : (Drew : List (List ℕ) → Type 0) (Read : List ℕ → Type 0) (bytes : List ℕ) (before after : Option (List ℕ))
     (drawn : List (List ℕ)) (time status : ℕ) → Drew drawn → Read (time ∷ []) → IsCutShort status
-    → AnswersFirst time most_rows bytes left before after (Err status) drawn → WritesFront Drew Read bytes before after
-refused_front Drew Read bytes left before after drawn time status drew read short says =
+    → (status ≡ 3 → WritesRefusal time most_rows bytes before after drawn) × (status ≢ 3 → WritesFirstFront time most_rows bytes before after drawn)
+    → WritesFront Drew Read bytes before after
+refused_front Drew Read bytes before after drawn time status drew read short says =
     first_front Drew Read bytes before after drawn time drew read (says.1 (not_three status short))
 
 -- behind the commands

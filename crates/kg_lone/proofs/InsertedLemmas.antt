@@ -1,5 +1,5 @@
 -- The rows after commands that insert are those that they insert.
-use Rattle.std.proofs.Common.{◌≡◌, ℕ, suc, ◌==◌, Bool, true, false, not, ◌&&◌, ◌||◌, List, [], ◌∷◌, ◌++◌, length, refl, sym, ap, ◌∙◌, All, arith}
+use Rattle.std.proofs.Common.{◌≡◌, ℕ, suc, ◌==◌, Bool, true, false, not, ◌&&◌, List, [], ◌∷◌, ◌++◌, Option, Some, None, length, refl, sym, ap, ◌∙◌, All, arith}
 use Rattle.std.specs.List.{filter_map}
 use Rattle.std.proofs.lemmas.Bool.Decides.{nat_tests}
 use Rattle.std.proofs.lemmas.List.{append-nil, append_assoc}
@@ -15,7 +15,7 @@ use Rattle.kg_router.specs.RouterRows.{RouterRows}
 use Rattle.kg_rows.specs.Rows.{rows_after, rows_from}
 use Rattle.kg_rows.specs.declared.command.Command.{Command}
 use Rattle.kg_rows.specs.declared.command.Command.TheVariants.{Insert, Update, Delete}
-use Rattle.kg_lone.specs.InsertedRows.{has_plugin, is_plugin, route_in, router_rows, routes_in, service_in, services_in}
+use Rattle.kg_lone.specs.InsertedRows.{has_plugin, route_in, router_rows, routes_in, service_in, services_in, with_one}
 
 -- the rows are those before, and behind them those that the commands insert
 record AreBehind (before : RowLists) (commands : List Command) (after : RowLists) : Type 0 where
@@ -95,8 +95,16 @@ routing commands services routes all one other =
 
 -- ---- one command more
 
-pub services_push : (commands : List Command) (command : Command) → services_in (commands ++ command ∷ []) ≡ services_in commands ++ services_in (command ∷ [])
-services_push commands command = filter_map-append service_in commands (command ∷ [])
+push_in : {X : Type 0} (h : Command → Option X) (commands : List Command) (command : Command)
+    → filter_map h (commands ++ command ∷ []) ≡ with_one (h command) (filter_map h commands)
+push_in {X} h commands command = filter_map-append h commands (command ∷ []) ∙ behind_all (h command) (filter_map h commands)
+  where
+    behind_all : (one : Option X) (xs : List X) → xs ++ filter_map (λ (x : Option X). x) (one ∷ []) ≡ with_one one xs
+    behind_all None xs = append-nil xs
+    behind_all (Some x) xs = refl
 
-pub routes_push : (commands : List Command) (command : Command) → routes_in (commands ++ command ∷ []) ≡ routes_in commands ++ routes_in (command ∷ [])
-routes_push commands command = filter_map-append route_in commands (command ∷ [])
+pub services_push : (commands : List Command) (command : Command) → services_in (commands ++ command ∷ []) ≡ with_one (service_in command) (services_in commands)
+services_push commands command = push_in service_in commands command
+
+pub routes_push : (commands : List Command) (command : Command) → routes_in (commands ++ command ∷ []) ≡ with_one (route_in command) (routes_in commands)
+routes_push commands command = push_in route_in commands command

@@ -1,6 +1,6 @@
 -- What a first line gives: the commands of its declaration, or its refusal (this project's own:
 -- docs/BEHAVIOUR.md, "The dry run").
-use Rattle.std.specs.Prelude.{◌≡◌, ◌≢◌, ℕ, ◌≤◌, ◌==◌, nat_lt, ◌⊎◌, List, [], ◌++◌, length, codes, Option, Some, Result, Ok, Err, if◌then◌else◌, ⊤}
+use Rattle.std.specs.Prelude.{◌≡◌, ◌≢◌, ℕ, ◌==◌, nat_lt, ◌⊎◌, List, [], ◌++◌, length, codes, Option, Some, Result, Ok, Err, if◌then◌else◌, ⊤}
 use Rattle.kg_declare.specs.Outcome.{Progress, Refused, next, outcome}
 use Rattle.kg_declare.specs.Steps.{progress_after}
 use Rattle.kg_declare.specs.declared.error.DeclareError.{DeclareError}

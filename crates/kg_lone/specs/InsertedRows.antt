@@ -1,7 +1,8 @@
 -- The rows that commands insert, by their kinds.
-use Rattle.std.specs.Prelude.{◌≡◌, ℕ, Bool, true, false, List, [], ◌∷◌, Option, Some, None}
+use Rattle.std.specs.Prelude.{Bool, true, false, List, [], ◌∷◌, ◌++◌, Option, Some, None}
 use Rattle.std.specs.List.{filter_map, list_any}
 use Rattle.kg_entities.specs.RowLists.{RowLists}
+use Rattle.kg_entities.specs.declared.entity.Entity.{Entity}
 use Rattle.kg_entities.specs.declared.entity.Entity.TheVariants as row
 use Rattle.kg_entities.specs.declared.route.Route.{Route}
 use Rattle.kg_entities.specs.declared.service.Service.{Service}
@@ -9,17 +10,31 @@ use Rattle.kg_router.specs.RouterRows.{RouterRows}
 use Rattle.kg_rows.specs.declared.command.Command.{Command}
 use Rattle.kg_rows.specs.declared.command.Command.TheVariants as command
 
+-- the service that a row is, if it is one, and so of routes and plugins
+abbrev pub as_service : Entity → Option Service
+as_service (row.Service service) = Some service
+as_service _ = None
+
+abbrev pub as_route : Entity → Option Route
+as_route (row.Route route) = Some route
+as_route _ = None
+
 abbrev pub service_in : Command → Option Service
-service_in (command.Insert (row.Service service)) = Some service
+service_in (command.Insert new) = as_service new
 service_in _ = None
 
 abbrev pub route_in : Command → Option Route
-route_in (command.Insert (row.Route route)) = Some route
+route_in (command.Insert new) = as_route new
 route_in _ = None
 
 abbrev pub is_plugin : Command → Bool
 is_plugin (command.Insert (row.Plugin plugin)) = true
 is_plugin _ = false
+
+-- a list, and behind it what is there
+abbrev pub with_one : {X : Type 0} → Option X → List X → List X
+with_one None xs = xs
+with_one (Some x) xs = xs ++ x ∷ []
 
 -- the services in their order
 abbrev pub services_in : List Command → List Service

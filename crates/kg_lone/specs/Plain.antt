@@ -1,6 +1,6 @@
 -- The plain gateway: what one request gets, a function of the rows and the request alone (Kong Gateway
 -- manual, "Routes" and "Services"; that the upstream is an echo is this project's own).
-use Rattle.std.specs.Prelude.{ℕ, Bool, false, List, Option, Some, None, codes}
+use Rattle.std.specs.Prelude.{◌≡◌, ℕ, Bool, false, List, Option, Some, None, codes}
 use Rattle.std.specs.Str.{bytes_eq}
 use Rattle.kg_message.specs.GatewayMessage.{gateway_message}
 use Rattle.kg_message.specs.declared.request.Request.{Request}
@@ -27,6 +27,9 @@ upstream_message choice request = message_to choice request (host_for choice req
 -- the reply to a request that no route takes
 unfoldable pub no_route : Response
 no_route = gateway_message 404 (codes "no Route matched with those values")
+
+abbrev pub IsNoRoute : Response → Type 0
+IsNoRoute response = response ≡ no_route
 
 -- the echo of the upstream message, where a route takes the request
 abbrev pub response_at : Option Choice → Request → Response

@@ -25,16 +25,15 @@ pub struct Gateway {
 }
 
 impl Model for Gateway {
-    ghost use Rattle.std.specs.Prelude.{◌≡◌};
     ghost use Rattle.kg_router.specs.RouterRows.{RouterRows};
     ghost use Rattle.kg_lone.specs.Echo.{IsEcho};
-    ghost use Rattle.kg_lone.specs.Plain.{no_route};
+    ghost use Rattle.kg_lone.specs.Plain.{IsNoRoute};
 
     ghost Value = { RouterRows };
 
     ghost view = { λ gateway. gateway.router };
 
-    ghost invariant = { λ gateway. (gateway.no_route ≡ no_route) × IsEcho gateway.echo };
+    ghost invariant = { λ gateway. IsNoRoute gateway.no_route × IsEcho gateway.echo };
 }
 
 impl Gateway {

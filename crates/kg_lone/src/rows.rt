@@ -1,10 +1,10 @@
 //! The router over the rows that commands insert.
 
-ghost use Rattle.std.specs.Prelude.{◌≡◌, [], ◌∷◌, ◌++◌, IfOk, OnOk};
+ghost use Rattle.std.specs.Prelude.{◌≡◌, IfOk, OnOk};
 ghost use Rattle.kg_declare.specs.Histories.{AreInsertions};
 ghost use Rattle.kg_rows.specs.Rows.{rows_after};
 ghost use Rattle.kg_lone.specs.DryText.{most_rows};
-ghost use Rattle.kg_lone.specs.InsertedRows.{router_rows, routes_in, services_in};
+ghost use Rattle.kg_lone.specs.InsertedRows.{as_route, as_service, route_in, router_rows, routes_in, service_in, services_in, with_one};
 
 use kg_entities::{Entity, Route, Service};
 use kg_router::RouterGen;
@@ -31,22 +31,41 @@ fn inserted_rows(
     let mut services = List::new(alloc);
     let mut routes = List::new(alloc);
     for command in commands.into_vec() {
-        add_row(command, &mut services, &mut routes)?;
+        add_inserted(command, &mut services, &mut routes)?;
     }
     Ok((services, routes))
 }
 
-fn add_row(
+fn add_inserted(
     command: Command,
     services: &mut List<Service>,
     routes: &mut List<Route>,
 ) -> Result<(), NoMemory>
-    ensures services { OnOk result (services.new ≡ services.old ++ services_in (command ∷ [])) }
-    ensures routes { OnOk result (routes.new ≡ routes.old ++ routes_in (command ∷ [])) }
+    ensures services { OnOk result (services.new ≡ with_one (service_in command) services.old) }
+    ensures routes { OnOk result (routes.new ≡ with_one (route_in command) routes.old) }
 {
     match command {
-        Command::Insert(Entity::Service(service)) => services.push(service),
-        Command::Insert(Entity::Route(route)) => routes.push(route),
-        _ => Ok(()),
+        Command::Insert(row) => add_row(row, services, routes),
+        Command::Update(_) => Ok(()),
+        Command::Delete { .. } => Ok(()),
+    }
+}
+
+fn add_row(
+    row: Entity,
+    services: &mut List<Service>,
+    routes: &mut List<Route>,
+) -> Result<(), NoMemory>
+    ensures services { OnOk result (services.new ≡ with_one (as_service row) services.old) }
+    ensures routes { OnOk result (routes.new ≡ with_one (as_route row) routes.old) }
+{
+    match row {
+        Entity::Service(service) => services.push(service),
+        Entity::Route(route) => routes.push(route),
+        Entity::Consumer(_) => Ok(()),
+        Entity::KeyCred(_) => Ok(()),
+        Entity::BasicCred(_) => Ok(()),
+        Entity::Acl(_) => Ok(()),
+        Entity::Plugin(_) => Ok(()),
     }
 }

@@ -288,20 +288,26 @@ fn goes_to(
     path: &str,
     target: &str,
 ) -> Result<bool, Fail> {
-    let bytes = joined(alloc, &[
-        "{\"_format_version\":\"3.0\",\"services\":[{\"url\":\"http://up.example:81",
-        service,
-        "\",\"routes\":[",
-        routes,
-        "]}]}\nGET ",
-        path,
-        " HTTP/1.1\r\nHost: A.example:8000\r\nConnection: close\r\n\r\n",
-    ])?;
-    let sent = joined(alloc, &[
-        "GET ",
-        target,
-        " HTTP/1.1\r\nhost: up.example:81\r\nx-forwarded-for: 127.0.0.1\r\nx-forwarded-proto: http\r\nx-forwarded-host: A.example:8000\r\nx-real-ip: 127.0.0.1\r\nconnection: close\r\n\r\n",
-    ])?;
+    let bytes = joined(
+        alloc,
+        &[
+            "{\"_format_version\":\"3.0\",\"services\":[{\"url\":\"http://up.example:81",
+            service,
+            "\",\"routes\":[",
+            routes,
+            "]}]}\nGET ",
+            path,
+            " HTTP/1.1\r\nHost: A.example:8000\r\nConnection: close\r\n\r\n",
+        ],
+    )?;
+    let sent = joined(
+        alloc,
+        &[
+            "GET ",
+            target,
+            " HTTP/1.1\r\nhost: up.example:81\r\nx-forwarded-for: 127.0.0.1\r\nx-forwarded-proto: http\r\nx-forwarded-host: A.example:8000\r\nx-real-ip: 127.0.0.1\r\nconnection: close\r\n\r\n",
+        ],
+    )?;
     let mut text = last_echo_head(alloc, sent.len())?;
     text.extend_from_slice(sent.as_slice())?;
     let ended = dry_writes(alloc, bytes, 4096, (0, 0), text.as_slice())?;

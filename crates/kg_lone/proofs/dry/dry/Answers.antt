@@ -31,12 +31,12 @@ returns-in-Ok-clause-front g c short bytes seen =
 pub returns-in-Err-clause-whole : goal.returns-in-Err-clause-whole
 returns-in-Err-clause-whole g c whole bytes seen =
     let drew = c.first_commands.ensures.line in
-    refused_whole _ _ bytes _ _ _ drew.drawn c.now-now.result c.in-Err.status drew.moved c.now-now.ensures c.in-Err.ensures.statuses whole
+    refused_whole _ _ bytes _ _ drew.drawn c.now-now.result c.in-Err.status drew.moved c.now-now.ensures c.in-Err.ensures.statuses whole
     (rw c.in-Err.is at (drew.says bytes seen))
 
 -- or a front of it
 pub returns-in-Err-clause-front : goal.returns-in-Err-clause-front
 returns-in-Err-clause-front g c short bytes seen =
     let drew = c.first_commands.ensures.line in
-    refused_front _ _ bytes _ _ _ drew.drawn c.now-now.result c.in-Err.status drew.moved c.now-now.ensures short
+    refused_front _ _ bytes _ _ drew.drawn c.now-now.result c.in-Err.status drew.moved c.now-now.ensures short
     (rw c.in-Err.is at (drew.says bytes seen))

@@ -5,13 +5,13 @@ use Rattle.kg_lone.proofs.InsertedLemmas.{routes_are, routing}
 use Rattle.kg_lone.proofs.rows.router_of.Goals as goal
 
 -- the routes are valid
-pub build-requires-valid : goal.build-requires-valid
-build-requires-valid c =
+pub build-requires-clause-valid : goal.build-requires-clause-valid
+build-requires-clause-valid c =
     subst (λ routes. All IsValidRoute routes) (routes_are c.args.commands c.requires.inserts ∙ sym c.in_ok-rows.ensures.1) c.requires.valid.routes
 
 -- and have distinct ids
-pub build-requires-distinct : goal.build-requires-distinct
-build-requires-distinct c =
+pub build-requires-clause-distinct : goal.build-requires-clause-distinct
+build-requires-clause-distinct c =
     subst HasDistinctRoutes (routes_are c.args.commands c.requires.inserts ∙ sym c.in_ok-rows.ensures.1) c.requires.distinct.ids.routes
 
 -- they are the rows after the commands
