@@ -106,6 +106,7 @@ fn parent(alloc: Global, kind: Kind, word: &str) -> Result<Option<Parent>, Fail>
 fn form(alloc: Global, kind: Kind, body: &str) -> Result<Form, Fail>
     ensures { IfOk result (λ form. form.kind ≡ kind) }
 {
+    let body = if body.is_empty() { "{}" } else { body };
     let body = serde_json::Value::from_str(alloc, body)?;
     match read_form(alloc, kind, &body) {
         Ok(form) => Ok(form),
@@ -113,48 +114,61 @@ fn form(alloc: Global, kind: Kind, body: &str) -> Result<Form, Fail>
     }
 }
 
-// The change of a line, at the end of the second of its number.
-fn draft(alloc: Global, step: &Step<'_>, line: u8) -> Result<Draft, Fail>
-    ensures { IfOk result IsProper }
+// The change that a verb asks for, at the end of the second of the line's number.
+fn change(
+    verb: &str,
+    kind: Kind,
+    parent: Option<Parent>,
+    select: Select,
+    form: Form,
+    line: u8,
+) -> Draft
+    requires form { form.kind ≡ kind }
+    requires parent { CanStandUnder kind parent }
+    ensures { IsProper result }
 {
-    let kind = step.kind;
-    let parent = parent(alloc, kind, step.parent)?;
+    let id = drawn(line);
     let now = u64::from(line) * 1000 + 999;
-    if step.verb == "delete" {
-        return Ok(Draft::Delete {
-            kind,
-            parent,
-            select: select(alloc, step.word)?,
-        });
-    }
-    let form = form(alloc, kind, step.body)?;
-    if step.verb == "post" {
-        return Ok(Draft::Insert {
+    match verb {
+        "post" => Draft::Insert {
             kind,
             parent,
             form,
-            id: drawn(line),
+            id,
             now,
-        });
-    }
-    let select = select(alloc, step.word)?;
-    if step.verb == "put" {
-        return Ok(Draft::Put {
+        },
+        "put" => Draft::Put {
             kind,
             parent,
             select,
             form,
-            id: drawn(line),
+            id,
             now,
-        });
+        },
+        "patch" => Draft::Patch {
+            kind,
+            parent,
+            select,
+            form,
+            now,
+        },
+        _ => Draft::Delete {
+            kind,
+            parent,
+            select,
+        },
     }
-    Ok(Draft::Patch {
-        kind,
-        parent,
-        select,
-        form,
-        now,
-    })
+}
+
+// The change of a line.
+fn draft(alloc: Global, step: &Step<'_>, line: u8) -> Result<Draft, Fail>
+    ensures { IfOk result IsProper }
+{
+    let kind = step.kind;
+    let select = select(alloc, step.word)?;
+    let parent = parent(alloc, kind, step.parent)?;
+    let form = form(alloc, kind, step.body)?;
+    Ok(change(step.verb, kind, parent, select, form, line))
 }
 
 // The text without the digits that all ids have.
@@ -294,19 +308,31 @@ fn value_text(alloc: Global, value: &Value) -> Result<String, Fail> {
     Ok(String::from_str(alloc, if value.is_none() { "none" } else { "some" })?)
 }
 
+// The row that a word names, as it is shown.
+fn row_told(alloc: Global, rows: &Rows, kind: Kind, word: &str) -> Result<String, Fail> {
+    let select = select(alloc, word)?;
+    shown(alloc, &selected(alloc, rows, kind, &select)?)
+}
+
+// The value of a key.
+fn value_told(alloc: Global, rows: &Rows, name: &str) -> Result<String, Fail> {
+    let key = key_named(alloc, name)?;
+    value_text(alloc, &value_of(alloc, rows, &key)?)
+}
+
+// What comes of the change of a line.
+fn change_told(alloc: Global, rows: &mut Rows, step: &Step<'_>, line: u8) -> Result<String, Fail> {
+    let draft = draft(alloc, step, line)?;
+    changed(alloc, rows, &draft)
+}
+
 // What is told of a line.
 fn told(alloc: Global, rows: &mut Rows, step: &Step<'_>, line: u8) -> Result<String, Fail> {
-    if step.verb == "show" {
-        let select = select(alloc, step.word)?;
-        return shown(alloc, &selected(alloc, rows, step.kind, &select)?);
+    match step.verb {
+        "show" => row_told(alloc, rows, step.kind, step.word),
+        "value" => value_told(alloc, rows, step.word),
+        _ => change_told(alloc, rows, step, line),
     }
-    if step.verb == "value" {
-        return value_text(
-            alloc,
-            &value_of(alloc, rows, &key_named(alloc, step.word)?)?,
-        );
-    }
-    changed(alloc, rows, &draft(alloc, step, line)?)
 }
 
 fn is_as_wanted(alloc: Global, rows: &mut Rows, line: &str, number: u8) -> Result<bool, Fail> {
