@@ -116,12 +116,7 @@ fn insert(alloc: Global, draft: &Draft, made: &mut Made, limit: u32) -> Result<(
 }
 
 // The draft's command.
-fn decided(
-    alloc: Global,
-    rows: &Rows,
-    draft: &Draft,
-    limit: u32,
-) -> Result<Command, DeclareError>
+fn decided(alloc: Global, rows: &Rows, draft: &Draft, limit: u32) -> Result<Command, DeclareError>
     requires insertion { IsInsertion draft.now }
     requires proper { IsProper draft.now }
     ensures ok { IfOk result (λ command. IsDecided limit rows.now draft.now command) }
