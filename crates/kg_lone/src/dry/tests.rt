@@ -194,16 +194,16 @@ fn refuses_blanks(alloc: Global, len: usize, text: &str) -> Result<bool, Fail> {
 }
 
 #[test]
-fn a_line_past_the_limit_is_not_read(rt: HostRuntime) -> Result<(), Fail> {
-    for (len, text) in [
-        (
-            67_108_864,
-            "line 1 refused: {\"message\":\"Cannot parse JSON body\"}\n",
-        ),
-        (67_108_865, "line 1 refused: {\"message\":\"Bad line\"}\n"),
-    ] {
-        assert!(rt; refuses_blanks(rt.alloc(), len, text)?, "{len}");
-    }
+fn a_line_of_the_greatest_length_is_read(rt: HostRuntime) -> Result<(), Fail> {
+    let text = "line 1 refused: {\"message\":\"Cannot parse JSON body\"}\n";
+    assert!(rt; refuses_blanks(rt.alloc(), 67_108_864, text)?);
+    Ok(())
+}
+
+#[test]
+fn a_longer_line_is_refused(rt: HostRuntime) -> Result<(), Fail> {
+    let text = "line 1 refused: {\"message\":\"Bad line\"}\n";
+    assert!(rt; refuses_blanks(rt.alloc(), 67_108_865, text)?);
     Ok(())
 }
 
