@@ -4,8 +4,8 @@ ghost use Rattle.std.specs.Prelude.{◌≡◌, IfOk, IfSome, IsTrue};
 ghost use Rattle.kg_rows.specs.Decision.{CanStandUnder, IsProper, nests};
 
 use super::*;
-use kg_entities::{Entity, GenKey, Id, Key, Kind, Rows, Value};
-use kg_schema::{Form, read_form, show_entity};
+use kg_entities::{GenKey, Id, Key, Kind, Rows, Value};
+use kg_schema::{Form, read_form};
 use kg_text::Text;
 use std::alloc::Global;
 use std::test::Fail;
@@ -272,13 +272,6 @@ fn changed(alloc: Global, rows: &mut Rows, draft: &Draft) -> Result<String, Fail
     }
 }
 
-fn shown(alloc: Global, row: &Option<Entity>) -> Result<String, Fail> {
-    match row {
-        Some(row) => Ok(show_entity(alloc, row)?.to_string(alloc)?),
-        None => Ok(String::from_str(alloc, "none")?),
-    }
-}
-
 fn key_named(alloc: Global, name: &str) -> Result<Key, Fail> {
     let (front, word) = name.split_once(':').ok_or("a key without a colon")?;
     match Id::parse(word.as_bytes()) {
@@ -308,12 +301,6 @@ fn value_text(alloc: Global, value: &Value) -> Result<String, Fail> {
     Ok(String::from_str(alloc, if value.is_none() { "none" } else { "some" })?)
 }
 
-// The row that a word names, as it is shown.
-fn row_told(alloc: Global, rows: &Rows, kind: Kind, word: &str) -> Result<String, Fail> {
-    let select = select(alloc, word)?;
-    shown(alloc, &selected(alloc, rows, kind, &select)?)
-}
-
 // The value of a key.
 fn value_told(alloc: Global, rows: &Rows, name: &str) -> Result<String, Fail> {
     let key = key_named(alloc, name)?;
@@ -329,7 +316,6 @@ fn change_told(alloc: Global, rows: &mut Rows, step: &Step<'_>, line: u8) -> Res
 // What is told of a line.
 fn told(alloc: Global, rows: &mut Rows, step: &Step<'_>, line: u8) -> Result<String, Fail> {
     match step.verb {
-        "show" => row_told(alloc, rows, step.kind, step.word),
         "value" => value_told(alloc, rows, step.word),
         _ => change_told(alloc, rows, step, line),
     }
@@ -359,8 +345,7 @@ value|consumer||named:alice||some
 value|consumer||named:00000000-0000-4000-8000-000000000001||some
 value|consumer||consumer:00000000-0000-4000-8000-000000000001||some
 delete|consumer||alice||consumer:01 cred:k1 named:01 named:alice
-value|consumer||cred:k1||none
-show|key-auth||k1||none"#;
+value|consumer||cred:k1||none"#;
 
 #[test]
 fn deleted_consumers_touch_the_keys_of_their_credentials(rt: HostRuntime) -> Result<(), Fail> {
@@ -416,13 +401,11 @@ fn refusals_come_in_their_order(rt: HostRuntime) -> Result<(), Fail> {
     Ok(())
 }
 
-// What PUT and PATCH make of a row. The clock stands in the second of the line's number.
+// What PUT and PATCH touch.
 const PUT_AND_PATCH: &str = r#"put|consumer||alice|{}|consumer:01 named:01 named:alice
 put|consumer||dora|{"username":"bob"}|violation username fixed
 put|consumer||alice|{"custom_id":"c"}|consumer:01 named:01 named:alice
-show|consumer||00000000-0000-4000-8000-000000000001||{"created_at":1,"custom_id":"c","id":"00000000-0000-4000-8000-000000000001","updated_at":3,"username":null}
 patch|consumer||00000000-0000-4000-8000-000000000001|{"username":"ann"}|consumer:01 named:01 named:ann
-show|consumer||ann||{"created_at":1,"custom_id":"c","id":"00000000-0000-4000-8000-000000000001","updated_at":5,"username":"ann"}
 put|consumer||00000000-0000-4000-8000-000000000077|{"username":"carol"}|consumer:77 named:77 named:carol
 post|consumer|||{"username":"ann","custom_id":"c"}|unique custom_id 01
 patch|consumer||nobody|{}|not found

@@ -343,6 +343,3 @@ fn tell_row(
         Entity::Plugin(row) => tell_plugin(alloc, faults, body, base, row),
     }
 }
-
-#[cfg(test)]
-mod tests;

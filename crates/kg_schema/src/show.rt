@@ -204,6 +204,3 @@ fn plugin_object(alloc: Global, row: &PluginRow) -> Result<Value, AllocError>
         "service": Link(row.scope.service)
     })
 }
-
-#[cfg(test)]
-mod tests;
