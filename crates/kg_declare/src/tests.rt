@@ -1,6 +1,7 @@
 //! Declarations that are refused.
 
 mod accepted;
+mod touched;
 
 use crate::error::DeclareError;
 use crate::line::declare;
@@ -171,6 +172,15 @@ fn the_first_refused_row_refuses_all(rt: HostRuntime) -> Result<(), Fail> {
             "{line}"
         );
     }
+    Ok(())
+}
+
+// The program of the pattern is too large, though its text is a pattern.
+#[test]
+fn a_pattern_that_is_too_large_is_want_of_memory(rt: HostRuntime) -> Result<(), Fail> {
+    let line =
+        r#"{"_format_version":"3.0","services":[{"host":"h","routes":[{"paths":["~a{1000}{1000}{1000}"]}]}]}"#;
+    assert_eq!(rt; refused(rt.alloc(), line)?.as_str(), "no memory");
     Ok(())
 }
 

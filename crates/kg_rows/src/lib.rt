@@ -35,6 +35,3 @@ pub use crate::laws::{allowed_commands_make_valid_rows, last_command_changes_wha
 pub use crate::select::{Parent, Select};
 pub use crate::touched::Touched;
 pub use crate::value::value_of;
-
-#[cfg(test)]
-mod tests;

@@ -30,6 +30,3 @@ pub use crate::reference::Reference;
 pub use crate::row::{accepts_word, finish, finish_under, finished_rows_are_valid};
 pub use crate::rule::Rule;
 pub use crate::show::show_entity;
-
-#[cfg(test)]
-mod tests;

@@ -30,19 +30,3 @@ fn digest_of(id: &[u8], password: &[u8]) -> [u8; 32]
     hasher.update(password);
     hasher.finalize()
 }
-
-#[cfg(test)]
-mod tests {
-    use super::*;
-    use std::test::Fail;
-
-    #[test]
-    fn passwords_are_kept_as_salted_hashes(rt: HostRuntime) -> Result<(), Fail> {
-        let alloc = rt.alloc();
-        let alice = Id::parse(b"00000000-0000-4000-8000-000000000003").ok_or("alice")?;
-        let kept = stored_password(alloc, alice, &Text::from_str(alloc, "secret")?)?;
-        let wanted = "259648ddab6f3bc0479aaf20fa9ac6771b213694539fa7dc0098596e2dc3e724";
-        assert_eq!(rt; kept.as_str(), wanted);
-        Ok(())
-    }
-}
