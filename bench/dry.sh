@@ -89,5 +89,6 @@ if [ $# -gt 0 ] && has_valgrind && command -v gcc > /dev/null; then
     cmp "$folder/expected" "$folder/replies"
     ours=$(per_request "$program" dry)
     limit=$(per_request "$folder/limit")
-    echo "worked example: $ours instructions a request, $limit of the limit program: $((ours / limit)) times"
+    times=$(awk -v ours="$ours" -v limit="$limit" 'BEGIN { printf "%.1f", ours / limit }')
+    echo "worked example: $ours instructions a request, $limit of the limit program: $times times"
 fi
