@@ -9,8 +9,8 @@ use Rattle.std.specs.Ordering.{nat_cmp, match_ordering}
 use Rattle.std.specs.Str.{bytes_eq}
 use Rattle.serde_json.specs.Data.{Data, Members, no_members, member}
 use Rattle.serde_json.specs.Find.{get_member}
-use Rattle.kg_entities.specs.declared.entity.Kind.{Kind}
-use Rattle.kg_entities.specs.declared.entity.Kind.TheVariants as kind
+use Rattle.kg_row_types.specs.declared.entity.Kind.{Kind}
+use Rattle.kg_row_types.specs.declared.entity.Kind.TheVariants as kind
 use Rattle.kg_declare.specs.Faults.{rows_at, rows_in}
 use Rattle.kg_declare.specs.Rows.{Row, alone, consumers, listed, nested, nested_in, nested_from, owned, plugins, routes, row_of, rows_of, services, stripped, without}
 use Rattle.kg_declare.specs.SeenRows.{AreListed, HaveNested, HaveNestedPlugins, joined, seen_all}

@@ -5,24 +5,24 @@ use Rattle.std.proofs.lemmas.Bool.{and_parts}
 use Rattle.std.proofs.lemmas.List.Elements.{All-nil, All-push}
 use Rattle.serde_json.specs.Data.{Data}
 use Rattle.serde_json.specs.View.{view}
-use Rattle.kg_entities.specs.RowLists.{RowLists, no_rows}
-use Rattle.kg_entities.specs.ValidRows.{AreValidRows}
-use Rattle.kg_entities.specs.declared.entity.Entity.{Entity}
-use Rattle.kg_entities.specs.declared.entity.Kind.{Kind}
-use Rattle.kg_rows.specs.Allowed.{is_allowed}
+use Rattle.kg_row_types.specs.RowLists.{RowLists, no_rows}
+use Rattle.kg_row_types.specs.ValidRows.{AreValidRows}
+use Rattle.kg_row_types.specs.declared.entity.Entity.{Entity}
+use Rattle.kg_row_types.specs.declared.entity.Kind.{Kind}
+use Rattle.kg_row_changes.specs.Allowed.{is_allowed}
 use Rattle.kg_rows.specs.Decision.{and_then, decision, full, inserted, insertion, needed, proposed, unless}
 use Rattle.kg_rows.specs.References.{link_of}
-use Rattle.kg_rows.specs.Rows.{changed, rows_after, rows_from}
+use Rattle.kg_row_values.specs.Rows.{changed, rows_after, rows_from}
 use Rattle.kg_rows.specs.Selections.{place_of}
-use Rattle.kg_rows.specs.ValidCommands.{AreAllowed, IsValidCommand}
-use Rattle.kg_rows.specs.declared.command.Command.{Command}
-use Rattle.kg_rows.specs.declared.command.Command.TheVariants as command
+use Rattle.kg_row_changes.specs.ValidCommands.{AreAllowed, IsValidCommand}
+use Rattle.kg_row_values.specs.declared.command.Command.{Command}
+use Rattle.kg_row_values.specs.declared.command.Command.TheVariants as command
 use Rattle.kg_rows.specs.declared.draft.Draft.{Draft}
 use Rattle.kg_rows.specs.declared.draft.Draft.TheVariants.{Insert, Patch, Put, Delete}
 use Rattle.kg_rows.specs.declared.draft.Refusal.{Refusal}
 use Rattle.kg_rows.specs.declared.draft.Refusal.TheVariants.{NotFound}
 use Rattle.kg_rows.specs.declared.place.Place.{Place}
-use Rattle.kg_schema.specs.Bases.{New}
+use Rattle.kg_row_making.specs.Bases.{New}
 use Rattle.kg_declare.specs.Histories.{InsertsNewRow, InsertsValidRow, IsConsistent, IsDecided, IsInsertion}
 use Rattle.kg_declare.specs.Outcome.{decided}
 use Rattle.kg_declare.specs.Steps.{progress_at}

@@ -3,16 +3,16 @@ use Rattle.std.proofs.Common.{◌≡◌, ◌≢◌, ℕ, zero, suc, ◌+◌, ◌
 use Rattle.std.proofs.lemmas.Bool.Decides.{nat_tests}
 use Rattle.std.proofs.lemmas.List.{append-nil}
 use Rattle.serde_json.specs.Data.{Data, Members, object}
-use Rattle.kg_entities.specs.Ids.{drawn_id}
+use Rattle.kg_row_types.specs.Ids.{drawn_id}
 use Rattle.kg_rows.specs.Decision.{Decides}
-use Rattle.kg_rows.specs.declared.command.Command.{Command}
+use Rattle.kg_row_values.specs.declared.command.Command.{Command}
 use Rattle.kg_rows.specs.declared.draft.DecideError.{DecideError}
 use Rattle.kg_rows.specs.declared.draft.DecideError.TheVariants as decide_error
 use Rattle.kg_rows.specs.declared.draft.Refusal.{Refusal}
-use Rattle.kg_schema.proofs.RuleLemmas.{in_order_none}
-use Rattle.kg_schema.specs.Rules.{Fault, in_order}
-use Rattle.kg_schema.specs.Settings.{id_at}
-use Rattle.kg_schema.specs.declared.rule.Rule.TheVariants.{WrongType}
+use Rattle.kg_field_rules.proofs.RuleLemmas.{in_order_none}
+use Rattle.kg_field_rules.specs.Rules.{Fault, in_order}
+use Rattle.kg_bodies.specs.Settings.{id_at}
+use Rattle.kg_field_rules.specs.declared.rule.Rule.TheVariants.{WrongType}
 use Rattle.kg_declare.specs.Faults.{own_faults}
 use Rattle.kg_declare.specs.Histories.{IsConsistent}
 use Rattle.kg_declare.specs.Outcome.{Progress, Refused, decided, declaration_of, declared, outcome, start, unread, next, identified, inserted, row_faults, violated, with_row, with_rows, wrong_faults}

@@ -4,8 +4,8 @@ use Rattle.std.specs.Cmp.Lexicographic.{slice_cmp}
 use Rattle.std.specs.Ordering.{nat_cmp, match_ordering}
 use Rattle.serde_json.specs.Data.{Data, Members, no_members, member, put, string}
 use Rattle.serde_json.specs.Written.{members_have_float, has_float}
-use Rattle.kg_schema.specs.Rules.{rule_word}
-use Rattle.kg_schema.specs.declared.fault.Broken.{Broken}
+use Rattle.kg_field_rules.specs.Rules.{rule_word}
+use Rattle.kg_field_rules.specs.declared.fault.Broken.{Broken}
 use Rattle.kg_declare.specs.RefusalBody.{with_word, words_of}
 
 second : (a b : Bool) → (a || b) ≡ false → b ≡ false

@@ -2,9 +2,9 @@
 use Rattle.std.proofs.Common.{◌≡◌, ℕ, suc, List, [], ◌∷◌, ◌++◌, map, All, Option, Some, None, unwrap_or, option_map, codes, IsTrue, IfSome, refl}
 use Rattle.std.proofs.lemmas.List.Elements.{All-append, All-cons, All-head, All-map, All-nil, All-tail}
 use Rattle.serde_json.specs.Data.{Members}
-use Rattle.kg_entities.specs.RowLists.{RowLists}
-use Rattle.kg_entities.specs.declared.entity.Kind.{Kind}
-use Rattle.kg_entities.specs.declared.entity.Kind.TheVariants as kind
+use Rattle.kg_row_types.specs.RowLists.{RowLists}
+use Rattle.kg_row_types.specs.declared.entity.Kind.{Kind}
+use Rattle.kg_row_types.specs.declared.entity.Kind.TheVariants as kind
 use Rattle.kg_rows.specs.Decision.{CanStandUnder, nests}
 use Rattle.kg_rows.specs.declared.select.Select.TheVariants.{Id}
 use Rattle.kg_declare.specs.Faults.{rows_at}

@@ -6,10 +6,10 @@ use Rattle.std.specs.Option.{option_map_or}
 use Rattle.std.specs.Str.{bytes_eq}
 use Rattle.serde_json.specs.Data.{Data, Items, no_items, item, Members, no_members, member}
 use Rattle.serde_json.specs.Find.{as_array, as_null, as_object, as_str, get_member}
-use Rattle.kg_schema.specs.BrokenRules.{told}
-use Rattle.kg_schema.specs.Rules.{Fault}
-use Rattle.kg_schema.specs.declared.rule.Rule.{Rule}
-use Rattle.kg_schema.specs.declared.rule.Rule.TheVariants.{Required, Unknown, WrongType, OneOf}
+use Rattle.kg_field_tables.specs.BrokenRules.{told}
+use Rattle.kg_field_rules.specs.Rules.{Fault}
+use Rattle.kg_field_rules.specs.declared.rule.Rule.{Rule}
+use Rattle.kg_field_rules.specs.declared.rule.Rule.TheVariants.{Required, Unknown, WrongType, OneOf}
 
 -- ---- lists of rows
 

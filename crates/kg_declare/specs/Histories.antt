@@ -1,15 +1,15 @@
 -- What the commands of a declaration are: each inserts a valid row, and is allowed at the rows before it.
 use Rattle.std.specs.Prelude.{◌≡◌, ℕ, false, List, All, Ok, IsTrue, ⊤}
-use Rattle.kg_entities.specs.Entities.{kind_of, id_of_row}
-use Rattle.kg_entities.specs.RowChanges.{has_row}
-use Rattle.kg_entities.specs.RowLists.{RowLists, no_rows}
-use Rattle.kg_entities.specs.ValidRows.{AreValidRows, HasDistinctRows, HasReferences, IsValidRow}
-use Rattle.kg_rows.specs.Allowed.{is_allowed}
+use Rattle.kg_row_types.specs.Entities.{kind_of, id_of_row}
+use Rattle.kg_row_types.specs.RowChanges.{has_row}
+use Rattle.kg_row_types.specs.RowLists.{RowLists, no_rows}
+use Rattle.kg_row_types.specs.ValidRows.{AreValidRows, HasDistinctRows, HasReferences, IsValidRow}
+use Rattle.kg_row_changes.specs.Allowed.{is_allowed}
 use Rattle.kg_rows.specs.Decision.{decision}
-use Rattle.kg_rows.specs.Rows.{rows_after}
-use Rattle.kg_rows.specs.ValidCommands.{AreAllowed, IsValidCommand}
-use Rattle.kg_rows.specs.declared.command.Command.{Command}
-use Rattle.kg_rows.specs.declared.command.Command.TheVariants.{Insert, Update, Delete}
+use Rattle.kg_row_values.specs.Rows.{rows_after}
+use Rattle.kg_row_changes.specs.ValidCommands.{AreAllowed, IsValidCommand}
+use Rattle.kg_row_values.specs.declared.command.Command.{Command}
+use Rattle.kg_row_values.specs.declared.command.Command.TheVariants.{Insert, Update, Delete}
 use Rattle.kg_rows.specs.declared.draft.Draft.{Draft}
 use Rattle.kg_rows.specs.declared.draft.Draft.TheVariants as draft
 use Rattle.kg_declare.specs.declared.progress.Made.{Made}

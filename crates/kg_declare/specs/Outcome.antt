@@ -6,22 +6,22 @@ use Rattle.std.specs.Str.{is_utf8}
 use Rattle.serde_json.specs.Data.{Data, object, Members, no_members}
 use Rattle.serde_json.specs.Find.{as_object}
 use Rattle.serde_json.specs.Read.{read}
-use Rattle.kg_entities.specs.Ids.{drawn_id}
-use Rattle.kg_entities.specs.RowLists.{RowLists, no_rows}
-use Rattle.kg_entities.specs.declared.entity.Kind.{Kind}
-use Rattle.kg_entities.specs.declared.entity.Kind.TheVariants as kind
+use Rattle.kg_row_types.specs.Ids.{drawn_id}
+use Rattle.kg_row_types.specs.RowLists.{RowLists, no_rows}
+use Rattle.kg_row_types.specs.declared.entity.Kind.{Kind}
+use Rattle.kg_row_types.specs.declared.entity.Kind.TheVariants as kind
 use Rattle.kg_message.specs.GatewayMessage.{gateway_message}
 use Rattle.kg_message.specs.declared.response.Response.{Response}
 use Rattle.kg_rows.specs.Decision.{insertion}
-use Rattle.kg_rows.specs.Rows.{changed}
-use Rattle.kg_rows.specs.declared.command.Command.{Command}
+use Rattle.kg_row_values.specs.Rows.{changed}
+use Rattle.kg_row_values.specs.declared.command.Command.{Command}
 use Rattle.kg_rows.specs.declared.draft.Refusal.{Refusal}
 use Rattle.kg_rows.specs.declared.select.Parent.{Parent}
 use Rattle.kg_rows.specs.declared.select.Select.TheVariants.{Id}
-use Rattle.kg_schema.specs.BrokenRules.{field_faults}
-use Rattle.kg_schema.specs.Rules.{Fault, in_order, listed}
-use Rattle.kg_schema.specs.Settings.{id_at}
-use Rattle.kg_schema.specs.declared.rule.Rule.TheVariants.{WrongType}
+use Rattle.kg_field_tables.specs.BrokenRules.{field_faults}
+use Rattle.kg_field_rules.specs.Rules.{Fault, in_order, listed}
+use Rattle.kg_bodies.specs.Settings.{id_at}
+use Rattle.kg_field_rules.specs.declared.rule.Rule.TheVariants.{WrongType}
 use Rattle.kg_declare.specs.Faults.{own_faults}
 use Rattle.kg_declare.specs.RefusalBody.{refusal_response, violation_response}
 use Rattle.kg_declare.specs.Rows.{Row, rows_of}

@@ -9,8 +9,8 @@ use Rattle.kg_message.specs.HeaderLists.{content_type}
 use Rattle.kg_message.specs.declared.response.Response.{Response}
 use Rattle.kg_rows.specs.declared.draft.Refusal.{Refusal}
 use Rattle.kg_rows.specs.declared.draft.Refusal.TheVariants.{NotFound, Violation, Foreign, Unique, Full, HistoryFull}
-use Rattle.kg_schema.specs.Rules.{rule_word}
-use Rattle.kg_schema.specs.declared.fault.Broken.{Broken}
+use Rattle.kg_field_rules.specs.Rules.{rule_word}
+use Rattle.kg_field_rules.specs.declared.fault.Broken.{Broken}
 
 -- ---- the fields of a refusal
 

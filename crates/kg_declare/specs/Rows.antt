@@ -4,8 +4,8 @@
 use Rattle.std.specs.Prelude.{ℕ, suc, List, [], ◌∷◌, ◌++◌, fold, map, Option, Some, None, unwrap_or, is_none, codes, if◌then◌else◌, IfSome, IsTrue}
 use Rattle.std.specs.Str.{bytes_eq}
 use Rattle.serde_json.specs.Data.{Data, Members, no_members, member}
-use Rattle.kg_entities.specs.declared.entity.Kind.{Kind}
-use Rattle.kg_entities.specs.declared.entity.Kind.TheVariants as kind
+use Rattle.kg_row_types.specs.declared.entity.Kind.{Kind}
+use Rattle.kg_row_types.specs.declared.entity.Kind.TheVariants as kind
 use Rattle.kg_rows.specs.Decision.{nests}
 use Rattle.kg_declare.specs.Faults.{rows_at}
 use Rattle.kg_declare.specs.declared.declared.Place.{Place}

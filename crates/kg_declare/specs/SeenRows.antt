@@ -2,7 +2,7 @@
 use Rattle.std.specs.Prelude.{◌≡◌, List, ◌++◌, map, codes}
 use Rattle.serde_json.specs.Data.{Members}
 use Rattle.serde_json.specs.View.{members_view}
-use Rattle.kg_entities.specs.declared.entity.Kind.TheVariants as kind
+use Rattle.kg_row_types.specs.declared.entity.Kind.TheVariants as kind
 use Rattle.kg_declare.specs.Rows.{Row, listed, nested, stripped}
 use Rattle.kg_declare.specs.declared.declared.Declared.{Declared}
 use Rattle.kg_declare.specs.declared.declared.Lists.{Lists}

@@ -1,14 +1,14 @@
 -- What the calls answer, beside what becomes of a declaration.
 use Rattle.std.specs.Prelude.{◌≡◌, ◌≢◌, ℕ, ◌+◌, List, [], ◌∷◌, ◌++◌, length, Option, Some, None, Result, Ok, Err, ⊤}
 use Rattle.serde_json.specs.Data.{Members}
-use Rattle.kg_entities.specs.Ids.{drawn_id}
+use Rattle.kg_row_types.specs.Ids.{drawn_id}
 use Rattle.kg_message.specs.declared.response.Response.{Response}
-use Rattle.kg_rows.specs.Rows.{rows_after}
-use Rattle.kg_rows.specs.declared.command.Command.{Command}
+use Rattle.kg_row_values.specs.Rows.{rows_after}
+use Rattle.kg_row_values.specs.declared.command.Command.{Command}
 use Rattle.kg_rows.specs.declared.draft.DecideError.{DecideError}
 use Rattle.kg_rows.specs.declared.draft.DecideError.TheVariants as decide_error
 use Rattle.kg_rows.specs.declared.draft.Refusal.{Refusal}
-use Rattle.kg_schema.specs.Rules.{Fault}
+use Rattle.kg_field_rules.specs.Rules.{Fault}
 use Rattle.kg_declare.specs.Faults.{own_faults}
 use Rattle.kg_declare.specs.Outcome.{Progress, Refused, declaration_of, unread, violated}
 use Rattle.kg_declare.specs.RefusalBody.{refusal_response}

@@ -4,8 +4,8 @@ ghost use Rattle.std.specs.Prelude.{◌≡◌, IfOk, OnOk, fold, is_some, map, o
 ghost use Rattle.std.specs.List.{list_all};
 ghost use Rattle.serde_json.specs.Find.{as_object, get_member};
 ghost use Rattle.serde_json.specs.View.{items_view, members_view, view};
-ghost use Rattle.kg_schema.specs.BrokenRules.{told};
-ghost use Rattle.kg_schema.specs.Rules.{in_order, tell};
+ghost use Rattle.kg_field_tables.specs.BrokenRules.{told};
+ghost use Rattle.kg_field_rules.specs.Rules.{in_order, tell};
 ghost use Rattle.kg_declare.specs.Faults.{each_object, has_version, list_rule, member_faults, member_rule, own_faults, rows_at, rows_in, version_faults, version_rule};
 ghost use Rattle.kg_declare.specs.Rows.{without};
 

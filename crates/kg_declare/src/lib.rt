@@ -11,6 +11,3 @@ mod refusal;
 pub use crate::error::DeclareError;
 pub use crate::line::declare;
 pub use crate::refusal::refusal_response;
-
-#[cfg(test)]
-mod tests;

@@ -4,9 +4,9 @@ ghost use Rattle.std.specs.Prelude.{◌≡◌, [], ◌∷◌, ◌++◌, ℕ, ◌
 ghost use Rattle.serde_json.specs.Data.{object};
 ghost use Rattle.serde_json.specs.View.{members_view, view};
 ghost use Rattle.kg_rows.specs.Decision.{IsProper, decision};
-ghost use Rattle.kg_rows.specs.Rows.{changed};
-ghost use Rattle.kg_schema.specs.Rules.{tell};
-ghost use Rattle.kg_schema.specs.Settings.{id_at};
+ghost use Rattle.kg_row_values.specs.Rows.{changed};
+ghost use Rattle.kg_field_rules.specs.Rules.{tell};
+ghost use Rattle.kg_bodies.specs.Settings.{id_at};
 ghost use Rattle.kg_declare.specs.Histories.{InsertsNewRow, IsConsistent, IsDecided, IsInsertion};
 ghost use Rattle.kg_declare.specs.Outcome.{body_faults, decided, id_in_place, parent_in_place, parent_of, row_faults, start, with_row, with_rows, wrong_faults};
 ghost use Rattle.kg_declare.specs.Rows.{Stands};

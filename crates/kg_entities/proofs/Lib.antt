@@ -1,4 +1,3 @@
 mod OwnerLemmas
 mod TableLemmas
 mod TextIndexLemmas
-pub mod IdLemmas

@@ -7,8 +7,8 @@ use Rattle.std.specs.List.{list_any}
 use Rattle.kg_entities.proofs.TableLemmas.{flipped}
 use Rattle.kg_entities.proofs.TextIndexLemmas.{all_left, same_number}
 use Rattle.kg_entities.specs.OwnerIndexes.{IsOwnerIndex, with_row, exchanged}
-use Rattle.kg_entities.specs.Tables.{replaced}
-use Rattle.kg_entities.specs.declared.consumer.AclRow.{AclRow}
+use Rattle.kg_row_types.specs.Tables.{replaced}
+use Rattle.kg_row_types.specs.declared.consumer.AclRow.{AclRow}
 
 -- ---- and, or
 

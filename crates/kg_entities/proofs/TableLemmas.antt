@@ -9,7 +9,7 @@ use Rattle.std.proofs.lemmas.Map.Keys.{IsDistinct-head, IsDistinct-tail}
 use Rattle.std.specs.List.{list_any, AllByRecursion, IsDistinct}
 use Rattle.std.specs.Map.{keys_of, lookup, values_of}
 use Rattle.indexmap.specs.IndexMap.{insert_entry}
-use Rattle.kg_entities.specs.Tables.{replaced}
+use Rattle.kg_row_types.specs.Tables.{replaced}
 
 -- equality of numbers, asked the other way round
 pub flipped : (a b : ℕ) → nat_eq a b ≡ nat_eq b a

@@ -8,8 +8,8 @@ use Rattle.std.proofs.lemmas.Map.Entries.{option_filter}
 use Rattle.std.proofs.lemmas.Map.Keys.{IsDistinct-head, IsDistinct-tail}
 use Rattle.std.specs.List.{list_any, AllByRecursion, IsDistinct}
 use Rattle.kg_entities.proofs.TableLemmas.{flipped}
-use Rattle.kg_entities.specs.Lookups.{is_text}
-use Rattle.kg_entities.specs.Tables.{replaced}
+use Rattle.kg_row_types.specs.Lookups.{is_text}
+use Rattle.kg_row_types.specs.Tables.{replaced}
 use Rattle.kg_entities.specs.TextIndexes.{Tells, IsIndex, noted, forgotten, is_only, is_kept, kept}
 use Rattle.kg_entities.specs.declared.text_index.Holder.{Holder}
 use Rattle.kg_entities.specs.declared.text_index.Holder.TheVariants.{Only, Several}

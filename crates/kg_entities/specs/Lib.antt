@@ -1,15 +1,2 @@
-pub mod ConfigWords
-pub mod Entities
-pub mod Ids
-pub mod Lookups
 pub mod OwnerIndexes
-pub mod Patterns
-pub mod PluginNames
-pub mod RowChanges
-pub mod RowLists
-pub mod StoredPassword
-pub mod Tables
 pub mod TextIndexes
-pub mod ValidRows
-pub mod Values
-pub mod Words

@@ -3,7 +3,7 @@ use Rattle.std.specs.Prelude.{◌≡◌, ℕ, Bool, not, ◌&&◌, ◌==◌, Lis
 use Rattle.std.specs.List.{list_any}
 use Rattle.std.specs.Option.{unwrap_or}
 use Rattle.indexmap.specs.IndexMap.{get}
-use Rattle.kg_entities.specs.declared.consumer.AclRow.{AclRow}
+use Rattle.kg_row_types.specs.declared.consumer.AclRow.{AclRow}
 use Rattle.kg_entities.specs.declared.owner_index.OwnerIndex.{OwnerIndex}
 
 -- what is listed for a consumer

@@ -3,7 +3,7 @@ use Rattle.std.specs.Prelude.{◌≡◌, ℕ, Bool, true, false, ◌&&◌, ◌==
 use Rattle.std.specs.Cmp.Lexicographic.{pointwise}
 use Rattle.std.specs.List.{list_any}
 use Rattle.indexmap.specs.IndexMap.{get}
-use Rattle.kg_entities.specs.Lookups.{is_text}
+use Rattle.kg_row_types.specs.Lookups.{is_text}
 use Rattle.kg_entities.specs.declared.text_index.Holder.{Holder}
 use Rattle.kg_entities.specs.declared.text_index.Holder.TheVariants.{Only, Several}
 use Rattle.kg_entities.specs.declared.text_index.TextIndex.{TextIndex}

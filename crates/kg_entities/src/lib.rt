@@ -1,40 +1,27 @@
-//! The entities of the gateway's configuration, as plain data.
+//! The entities of the gateway's configuration: plain rows, and all rows of every kind.
 //!
-//! Which rows are valid is said here; how a body becomes a row is said by the crates above.
+//! Which rows are valid is said by `kg_row_types`; how a body becomes a row, by the crates above.
 #![tactic(auto)]
 
-mod config;
-mod consumer;
-mod entity;
-mod id;
-mod key;
 mod memberships;
 mod named_table;
 mod owner_index;
-mod plugin;
-mod route;
-mod row;
 mod rows;
-mod service;
 mod table;
 mod text_index;
-mod value;
 
-pub use crate::config::{
+pub use crate::rows::Rows;
+pub use crate::table::RowTable;
+pub use kg_row_types::config::{
     Acl, BasicAuth, Config, Cors, Edits, IpRestriction, KeyAuth, LimitBy, RateLimiting,
     RequestTransformer, ResponseTransformer, SizeLimit, SizeUnit, Termination,
 };
-pub use crate::consumer::{AclRow, BasicCred, Consumer, KeyCred};
-pub use crate::entity::{Entity, Kind};
-pub use crate::id::Id;
-pub use crate::key::{GenKey, Key};
-pub use crate::plugin::{PluginName, PluginRow, Scope};
-pub use crate::route::{HeaderTest, Route};
-pub use crate::row::{Owned, Row};
-pub use crate::rows::Rows;
-pub use crate::service::Service;
-pub use crate::table::RowTable;
-pub use crate::value::Value;
-
-#[cfg(test)]
-mod tests;
+pub use kg_row_types::consumer::{AclRow, BasicCred, Consumer, KeyCred};
+pub use kg_row_types::entity::{Entity, Kind};
+pub use kg_row_types::id::Id;
+pub use kg_row_types::key::{GenKey, Key};
+pub use kg_row_types::plugin::{PluginName, PluginRow, Scope};
+pub use kg_row_types::route::{HeaderTest, Route};
+pub use kg_row_types::row::{Owned, Row};
+pub use kg_row_types::service::Service;
+pub use kg_row_types::value::Value;

@@ -3,12 +3,12 @@
 ghost use Rattle.std.specs.Prelude.{◌≡◌, [], ◌∷◌, ◌++◌, ◌==◌, false, OnOk, OnErr, filter, not};
 ghost use Rattle.std.specs.List.{list_any};
 ghost use Rattle.kg_entities.specs.OwnerIndexes.{AreRowsOf};
-ghost use Rattle.kg_entities.specs.Tables.{replaced};
+ghost use Rattle.kg_row_types.specs.Tables.{replaced};
 
-use crate::consumer::AclRow;
-use crate::id::Id;
 use crate::owner_index::OwnerIndex;
 use crate::table::RowTable;
+use kg_row_types::consumer::AclRow;
+use kg_row_types::id::Id;
 use kg_text::{NoMemory, TryClone};
 use std::alloc::Global;
 use std::marker::Model;
@@ -23,7 +23,7 @@ pub struct Memberships {
 impl Model for Memberships {
     ghost use Rattle.std.specs.Prelude.{List};
     ghost use Rattle.kg_entities.specs.OwnerIndexes.{IsOwnerIndex, listed};
-    ghost use Rattle.kg_entities.specs.declared.consumer.AclRow.{AclRow as Membership};
+    ghost use Rattle.kg_row_types.specs.declared.consumer.AclRow.{AclRow as Membership};
 
     ghost Value = { List Membership };
 

@@ -3,13 +3,13 @@
 ghost use Rattle.std.specs.Prelude.{◌≡◌, [], ◌∷◌, ◌++◌, ◌==◌, ◌&&◌, false, IfOk, OnOk, OnErr, find, filter, not};
 ghost use Rattle.std.specs.Option.{option_copied};
 ghost use Rattle.std.specs.List.{list_any};
-ghost use Rattle.kg_entities.specs.Lookups.{is_text};
-ghost use Rattle.kg_entities.specs.Tables.{replaced};
+ghost use Rattle.kg_row_types.specs.Lookups.{is_text};
+ghost use Rattle.kg_row_types.specs.Tables.{replaced};
 
-use crate::id::Id;
-use crate::row::{Named, Owned};
 use crate::table::RowTable;
 use crate::text_index::{Holder, TextIndex};
+use kg_row_types::id::Id;
+use kg_row_types::row::{Named, Owned};
 use kg_text::{NoMemory, Text, TryClone};
 use std::alloc::Global;
 use std::marker::Model;

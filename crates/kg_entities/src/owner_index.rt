@@ -3,9 +3,9 @@
 ghost use Rattle.std.specs.Prelude.{◌≡◌, ◌==◌, ℕ, [], filter, not, IfOk, OnOk, OnErr, if◌then◌else◌};
 ghost use Rattle.kg_entities.specs.OwnerIndexes.{listed, with_row, exchanged};
 
-use crate::consumer::AclRow;
-use crate::id::Id;
 use indexmap::IndexMap;
+use kg_row_types::consumer::AclRow;
+use kg_row_types::id::Id;
 use kg_text::{List, NoMemory, TryClone};
 use std::alloc::Global;
 

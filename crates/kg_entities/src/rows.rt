@@ -4,21 +4,21 @@ ghost use Rattle.std.specs.Prelude.{◌≡◌, ◌==◌, ◌&&◌, false, not, O
 ghost use Rattle.std.specs.List.{list_any};
 ghost use Rattle.std.specs.Str.{bytes_eq};
 ghost use Rattle.std.specs.Option.{option_copied};
-ghost use Rattle.kg_entities.specs.Entities.{kind_of, id_of_row};
-ghost use Rattle.kg_entities.specs.Lookups.{is_text, service_named, route_named, consumer_with_username, consumer_with_custom_id, cred_with_key, cred_with_username, named};
+ghost use Rattle.kg_row_types.specs.Entities.{kind_of, id_of_row};
+ghost use Rattle.kg_row_types.specs.Lookups.{is_text, service_named, route_named, consumer_with_username, consumer_with_custom_id, cred_with_key, cred_with_username, named};
 ghost use Rattle.kg_entities.specs.OwnerIndexes.{AreRowsOf};
-ghost use Rattle.kg_entities.specs.RowChanges.{has_row, count_of, inserted, updated, removed, without_plugins_of, without_credentials_of};
-ghost use Rattle.kg_entities.specs.RowLists.{no_rows};
+ghost use Rattle.kg_row_types.specs.RowChanges.{has_row, count_of, inserted, updated, removed, without_plugins_of, without_credentials_of};
+ghost use Rattle.kg_row_types.specs.RowLists.{no_rows};
 
-use crate::consumer::{AclRow, BasicCred, Consumer, KeyCred};
-use crate::entity::{Entity, Kind};
-use crate::id::Id;
 use crate::memberships::Memberships;
 use crate::named_table::NamedTable;
-use crate::plugin::PluginRow;
-use crate::route::Route;
-use crate::service::Service;
 use crate::table::RowTable;
+use kg_row_types::consumer::{AclRow, BasicCred, Consumer, KeyCred};
+use kg_row_types::entity::{Entity, Kind};
+use kg_row_types::id::Id;
+use kg_row_types::plugin::PluginRow;
+use kg_row_types::route::Route;
+use kg_row_types::service::Service;
 use kg_text::{NoMemory, Text, TryClone};
 use std::alloc::Global;
 use std::marker::Model;
@@ -36,7 +36,7 @@ pub struct Rows {
 }
 
 impl Model for Rows {
-    ghost use Rattle.kg_entities.specs.RowLists.{RowLists};
+    ghost use Rattle.kg_row_types.specs.RowLists.{RowLists};
 
     ghost Value = { RowLists };
 

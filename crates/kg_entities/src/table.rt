@@ -3,14 +3,14 @@
 ghost use Rattle.std.specs.Prelude.{◌≡◌, [], ◌∷◌, ◌++◌, ◌==◌, false, OnOk, OnErr, find, filter, length, map, nat_eq, not};
 ghost use Rattle.std.specs.Option.{option_copied, option_to_list};
 ghost use Rattle.std.specs.List.{list_any, IsDistinct};
-ghost use Rattle.kg_entities.specs.RowChanges.{names_row};
-ghost use Rattle.kg_entities.specs.Tables.{replaced};
+ghost use Rattle.kg_row_types.specs.RowChanges.{names_row};
+ghost use Rattle.kg_row_types.specs.Tables.{replaced};
 
-use crate::entity::Kind;
-use crate::id::Id;
-use crate::plugin::PluginRow;
-use crate::row::{Owned, Row};
 use indexmap::IndexMap;
+use kg_row_types::entity::Kind;
+use kg_row_types::id::Id;
+use kg_row_types::plugin::PluginRow;
+use kg_row_types::row::{Owned, Row};
 use kg_text::NoMemory;
 use std::alloc::Global;
 use std::marker::Model;

@@ -3,13 +3,13 @@
 ghost use Rattle.std.specs.Prelude.{◌≡◌, ◌<◌, ◌≤◌, ℕ, List, Some, None, OnOk};
 ghost use Rattle.indexmap.specs.IndexMap.{spare};
 ghost use Rattle.std.specs.Option.{option_copied};
-ghost use Rattle.kg_entities.specs.Lookups.{is_text};
+ghost use Rattle.kg_row_types.specs.Lookups.{is_text};
 ghost use Rattle.kg_entities.specs.TextIndexes.{holder_of, noted, forgotten, is_only, is_kept, kept};
 
-use crate::id::Id;
-use crate::row::Row;
 use crate::table::RowTable;
 use indexmap::IndexMap;
+use kg_row_types::id::Id;
+use kg_row_types::row::Row;
 use kg_text::{NoMemory, Text};
 use std::alloc::Global;
 

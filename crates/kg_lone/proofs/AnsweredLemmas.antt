@@ -8,7 +8,7 @@ use Rattle.kg_message.specs.declared.request.Request.{Request}
 use Rattle.kg_outside.specs.Moves.{with_front, with_end}
 use Rattle.kg_outside.proofs.Observed.{with_front-nil, with_front-append, with_end-nil, with_end-append}
 use Rattle.kg_router.specs.RouterRows.{RouterRows}
-use Rattle.kg_wire.specs.Connection.{asks_for_end}
+use Rattle.kg_print.specs.Connection.{asks_for_end}
 use Rattle.kg_wire.specs.Messages.{Message, IsRequest, NeverBegins, BeginsNoRequest, print_message, request_of}
 use Rattle.kg_wire.specs.Reading.{ReaderState, Takes, Grows, Refuses, IsCut, IsEnded, IsNothing}
 use Rattle.kg_wire.specs.declared.reader.ReadError.TheVariants.{Bad as BadMessage, Cut as CutMessage}

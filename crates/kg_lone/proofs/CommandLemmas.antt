@@ -10,7 +10,7 @@ use Rattle.kg_declare.specs.declared.error.DeclareError.TheVariants as error
 use Rattle.kg_message.specs.declared.response.Response.{Response}
 use Rattle.kg_outside.specs.Moves.{with_end}
 use Rattle.kg_outside.proofs.Observed.{with_end-nil}
-use Rattle.kg_rows.specs.declared.command.Command.{Command}
+use Rattle.kg_row_values.specs.declared.command.Command.{Command}
 use Rattle.kg_lone.specs.FirstCommands.{AnswersFirst, AnswersLine, Decides, GivesCommands, RefusesWith, first_outcome, first_text, most_line, not_built, read_outcome, refusal_line, run_outcome, without_plugins}
 use Rattle.kg_lone.specs.FirstLine.{GivesLine, line_of}
 use Rattle.kg_lone.specs.Fronts.{IsFront}

@@ -9,8 +9,8 @@ use Rattle.kg_wire.specs.Messages.{Message, IsReading, BeginsNoRequest, print_me
 use Rattle.kg_wire.proofs.MessageLemmas.{reading_front, reading_most, reading_same}
 use Rattle.kg_declare.specs.Outcome.{Progress, Refused as RefusedLine}
 use Rattle.kg_declare.specs.Steps.{progress_after}
-use Rattle.kg_rows.specs.Rows.{rows_after}
-use Rattle.kg_rows.specs.declared.command.Command.{Command}
+use Rattle.kg_row_values.specs.Rows.{rows_after}
+use Rattle.kg_row_values.specs.declared.command.Command.{Command}
 use Rattle.kg_lone.specs.Answered.{AnswersFront, EndsWith, FrontOfReplies}
 use Rattle.kg_lone.specs.DryRun.{IsBroken, IsCutShort, IsSameText, IsWhole}
 use Rattle.kg_lone.specs.DryText.{BeginsText, EndsSo, IsDryText, WritesFront, WritesText, last_text, local_address, most_requests, most_rows, status_of, texts}

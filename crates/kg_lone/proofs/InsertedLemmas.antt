@@ -4,17 +4,17 @@ use Rattle.std.specs.List.{filter_map}
 use Rattle.std.proofs.lemmas.Bool.Decides.{nat_tests}
 use Rattle.std.proofs.lemmas.List.{append-nil, append_assoc}
 use Rattle.std.proofs.lemmas.List.Elements.{All-head, All-tail, filter_map-append}
-use Rattle.kg_entities.specs.RowChanges.{inserted}
-use Rattle.kg_entities.specs.RowLists.{RowLists, no_rows}
-use Rattle.kg_entities.specs.declared.entity.Entity.{Entity}
-use Rattle.kg_entities.specs.declared.entity.Entity.TheVariants as row
+use Rattle.kg_row_types.specs.RowChanges.{inserted}
+use Rattle.kg_row_types.specs.RowLists.{RowLists, no_rows}
+use Rattle.kg_row_types.specs.declared.entity.Entity.{Entity}
+use Rattle.kg_row_types.specs.declared.entity.Entity.TheVariants as row
 use Rattle.kg_declare.specs.Histories.{InsertsValidRow}
-use Rattle.kg_entities.specs.declared.route.Route.{Route}
-use Rattle.kg_entities.specs.declared.service.Service.{Service}
+use Rattle.kg_row_types.specs.declared.route.Route.{Route}
+use Rattle.kg_row_types.specs.declared.service.Service.{Service}
 use Rattle.kg_router.specs.RouterRows.{RouterRows}
-use Rattle.kg_rows.specs.Rows.{rows_after, rows_from}
-use Rattle.kg_rows.specs.declared.command.Command.{Command}
-use Rattle.kg_rows.specs.declared.command.Command.TheVariants.{Insert, Update, Delete}
+use Rattle.kg_row_values.specs.Rows.{rows_after, rows_from}
+use Rattle.kg_row_values.specs.declared.command.Command.{Command}
+use Rattle.kg_row_values.specs.declared.command.Command.TheVariants.{Insert, Update, Delete}
 use Rattle.kg_lone.specs.InsertedRows.{has_plugin, route_in, router_rows, routes_in, service_in, services_in, with_one}
 
 -- the rows are those before, and behind them those that the commands insert

@@ -1,6 +1,6 @@
-mod CommandLemmas
-mod InsertedLemmas
-mod LineLemmas
 pub mod AnsweredLemmas
+mod CommandLemmas
 pub mod DryLemmas
 pub mod EndLemmas
+mod InsertedLemmas
+mod LineLemmas

@@ -12,7 +12,7 @@ use Rattle.kg_lone.specs.declared.dry.End.{End}
 use Rattle.kg_lone.specs.declared.dry.End.TheVariants.{Closed, Asked, Spent, Bad, Cut}
 use Rattle.kg_outside.specs.Moves.{with_end}
 use Rattle.kg_router.specs.RouterRows.{RouterRows}
-use Rattle.kg_wire.specs.Connection.{asks_for_end}
+use Rattle.kg_print.specs.Connection.{asks_for_end}
 use Rattle.kg_wire.specs.Messages.{Message, IsReading, NeverBegins, request_of}
 use Rattle.kg_wire.specs.Reading.{IsCut}
 

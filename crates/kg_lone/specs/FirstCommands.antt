@@ -12,7 +12,7 @@ use Rattle.kg_lone.specs.declared.line.FirstLine.TheVariants.{Whole, TooLong}
 use Rattle.kg_message.specs.GatewayMessage.{gateway_message}
 use Rattle.kg_message.specs.declared.response.Response.{Response}
 use Rattle.kg_outside.specs.Moves.{with_end}
-use Rattle.kg_rows.specs.declared.command.Command.{Command}
+use Rattle.kg_row_values.specs.declared.command.Command.{Command}
 
 -- how many bytes the first line may have, its line feed left aside
 abbrev pub most_line : ℕ

@@ -1,14 +1,14 @@
 -- The rows that commands insert, by their kinds.
 use Rattle.std.specs.Prelude.{Bool, true, false, List, [], ◌∷◌, ◌++◌, Option, Some, None}
 use Rattle.std.specs.List.{filter_map, list_any}
-use Rattle.kg_entities.specs.RowLists.{RowLists}
-use Rattle.kg_entities.specs.declared.entity.Entity.{Entity}
-use Rattle.kg_entities.specs.declared.entity.Entity.TheVariants as row
-use Rattle.kg_entities.specs.declared.route.Route.{Route}
-use Rattle.kg_entities.specs.declared.service.Service.{Service}
+use Rattle.kg_row_types.specs.RowLists.{RowLists}
+use Rattle.kg_row_types.specs.declared.entity.Entity.{Entity}
+use Rattle.kg_row_types.specs.declared.entity.Entity.TheVariants as row
+use Rattle.kg_row_types.specs.declared.route.Route.{Route}
+use Rattle.kg_row_types.specs.declared.service.Service.{Service}
 use Rattle.kg_router.specs.RouterRows.{RouterRows}
-use Rattle.kg_rows.specs.declared.command.Command.{Command}
-use Rattle.kg_rows.specs.declared.command.Command.TheVariants as command
+use Rattle.kg_row_values.specs.declared.command.Command.{Command}
+use Rattle.kg_row_values.specs.declared.command.Command.TheVariants as command
 
 -- the service that a row is, if it is one, and so of routes and plugins
 abbrev pub as_service : Entity → Option Service

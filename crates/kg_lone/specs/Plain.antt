@@ -7,10 +7,10 @@ use Rattle.kg_message.specs.declared.request.Request.{Request}
 use Rattle.kg_message.specs.declared.response.Response.{Response}
 use Rattle.kg_router.specs.Best.{Choice, best_choice}
 use Rattle.kg_router.specs.RouterRows.{RouterRows}
-use Rattle.kg_wire.specs.Connection.{keeping_of}
-use Rattle.kg_wire.specs.ReplyText.{reply_text}
-use Rattle.kg_wire.specs.UpstreamText.{upstream_text}
-use Rattle.kg_wire.specs.declared.connection.Keeping.TheVariants.{Close}
+use Rattle.kg_print.specs.Connection.{keeping_of}
+use Rattle.kg_print.specs.ReplyText.{reply_text}
+use Rattle.kg_print.specs.UpstreamText.{upstream_text}
+use Rattle.kg_print.specs.declared.connection.Keeping.TheVariants.{Close}
 use Rattle.kg_lone.specs.Echo.{echo_of}
 use Rattle.kg_lone.specs.UpstreamFields.{upstream_fields}
 use Rattle.kg_lone.specs.UpstreamPath.{host_for, target_for}

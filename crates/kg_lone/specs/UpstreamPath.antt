@@ -2,7 +2,7 @@
 -- sees (Kong Admin API, "Route": strip_path, preserve_host; the join is this project's own).
 use Rattle.std.specs.Prelude.{ℕ, ◌-◌, ◌==◌, List, [], ◌++◌, take, drop, length, nat_eq, codes, decimal, Option, Some, None, unwrap_or, if◌then◌else◌}
 use Rattle.std.specs.List.{starts_with, ends_with}
-use Rattle.kg_entities.specs.declared.service.Service.{Service}
+use Rattle.kg_row_types.specs.declared.service.Service.{Service}
 use Rattle.kg_message.specs.declared.request.Request.{Request}
 use Rattle.kg_router.specs.Best.{Choice}
 

@@ -1,13 +1,10 @@
 //! The dry run: a declaration and requests on one stream, the replies on another.
 
-#[cfg(test)]
-mod tests;
-
 ghost use Rattle.std.specs.Prelude.{◌≡◌, ◌⊎◌, ◌↔◌, ℕ, List as Sequence, [], ◌∷◌, Some, IsTrue, IfOk, OnOk, OnErr, IsErrOf};
 ghost use Rattle.kg_outside.specs.Causes.{Rose};
 ghost use Rattle.kg_outside.specs.Moves.{with_end};
 ghost use Rattle.kg_declare.specs.Histories.{AreInsertions};
-ghost use Rattle.kg_rows.specs.Rows.{rows_after};
+ghost use Rattle.kg_row_values.specs.Rows.{rows_after};
 ghost use Rattle.kg_lone.specs.Answered.{AnswersAll, AnswersFront, EndsWith};
 ghost use Rattle.kg_lone.specs.DryRun.{IsBroken, IsCutShort, IsDryWords, IsExit, IsSameText, IsWhole};
 ghost use Rattle.kg_lone.specs.DryText.{IsDryText, WritesFront, WritesText, most_rows};

@@ -2,7 +2,7 @@
 
 ghost use Rattle.std.specs.Prelude.{◌≡◌, IfOk};
 ghost use Rattle.kg_lone.specs.Echo.{IsEcho, echo_of};
-ghost use Rattle.kg_wire.specs.ReplyText.{reply_text};
+ghost use Rattle.kg_print.specs.ReplyText.{reply_text};
 ghost use Rattle.kg_lone.specs.Plain.{bad_request, bad_request_text, is_bodiless, no_route, reply_to};
 
 use crate::echo::echo_of;

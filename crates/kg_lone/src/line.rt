@@ -68,36 +68,3 @@ pub fn first_line<S: Source>(
     }
     Ok(FirstLine::Whole(line))
 }
-
-#[cfg(test)]
-mod tests {
-    use super::{FirstLine, first_line};
-    use kg_outside::{MemSource, Source};
-    use kg_text::{Bytes, List};
-    use std::test::Fail;
-
-    #[test]
-    fn takes_the_first_line_and_no_more(rt: HostRuntime) -> Result<(), Fail> {
-        let alloc = rt.alloc();
-        for (bytes, limit, want, next) in [
-            ("ab\ncd", 2, Some("ab"), 2),
-            ("ab\ncd", 1, None, 3),
-            ("ab", 2, Some("ab"), 0),
-            ("\n\n", 0, Some(""), 1),
-        ] {
-            let held = Bytes::from_slice(alloc, bytes.as_bytes())?;
-            let mut source = MemSource::new(held, 4096, List::new(alloc));
-            match first_line(alloc, &mut source, limit)? {
-                FirstLine::Whole(line) => {
-                    assert!(rt;
-                        Some(line.as_slice()) == want.map(|w| w.as_bytes()),
-                        "{bytes}"
-                    );
-                    assert_eq!(rt; source.read(&mut [0; 8])?, next, "{bytes}");
-                }
-                FirstLine::TooLong => assert!(rt; want.is_none(), "{bytes}"),
-            }
-        }
-        Ok(())
-    }
-}

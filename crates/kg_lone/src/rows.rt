@@ -2,7 +2,7 @@
 
 ghost use Rattle.std.specs.Prelude.{◌≡◌, IfOk, OnOk};
 ghost use Rattle.kg_declare.specs.Histories.{AreInsertions};
-ghost use Rattle.kg_rows.specs.Rows.{rows_after};
+ghost use Rattle.kg_row_values.specs.Rows.{rows_after};
 ghost use Rattle.kg_lone.specs.DryText.{most_rows};
 ghost use Rattle.kg_lone.specs.InsertedRows.{as_route, as_service, route_in, router_rows, routes_in, service_in, services_in, with_one};
 

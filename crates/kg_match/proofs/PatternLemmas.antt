@@ -17,7 +17,7 @@ use Rattle.regex_syntax.specs.Grammar.{Names, group_count, read}
 use Rattle.regex_syntax.specs.declared.error.Error as parser
 use Rattle.regex_syntax.specs.declared.error.ErrorKind.{ErrorKind}
 use Rattle.regex_syntax.specs.declared.error.ErrorKind.TheVariants.{OutOfMemory}
-use Rattle.kg_entities.specs.Patterns.{pattern_of, is_pattern, first_match}
+use Rattle.kg_row_types.specs.Patterns.{pattern_of, is_pattern, first_match}
 use Rattle.kg_match.specs.RoutePaths.{pattern_cut}
 
 -- what is kept of a text that the grammar reads

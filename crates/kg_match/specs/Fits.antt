@@ -3,8 +3,8 @@ use Rattle.std.specs.Prelude.{ℕ, Bool, ◌&&◌, List, Option, Some, None, if�
 use Rattle.std.specs.List.{list_any, list_all}
 use Rattle.std.specs.Str.{bytes_eq, str_eq_ignore_ascii_case}
 use Rattle.kg_text.specs.Hosts.{host_of}
-use Rattle.kg_entities.specs.declared.route.HeaderTest.{HeaderTest}
-use Rattle.kg_entities.specs.declared.route.Route.{Route}
+use Rattle.kg_row_types.specs.declared.route.HeaderTest.{HeaderTest}
+use Rattle.kg_row_types.specs.declared.route.Route.{Route}
 use Rattle.kg_message.specs.declared.header.Header.{Header}
 use Rattle.kg_message.specs.declared.request.Request.{Request}
 use Rattle.kg_match.specs.Attributes.{fits_where}

@@ -5,8 +5,8 @@ ghost use Rattle.std.specs.List.{list_any, list_all};
 ghost use Rattle.std.specs.Str.{str_eq_ignore_ascii_case};
 ghost use Rattle.kg_match.specs.Fits.{field_fits, header_fits};
 
-use kg_entities::HeaderTest;
 use kg_message::Header;
+use kg_row_types::route::HeaderTest;
 use kg_text::Text;
 
 /// Is each of these headers among the fields with one of its values?

@@ -8,8 +8,6 @@ mod method;
 mod path;
 mod pattern;
 mod route_test;
-#[cfg(test)]
-mod tests;
 
 pub use crate::error::BuildError;
 pub use crate::host::is_wildcard;

@@ -1,7 +1,7 @@
 //! The patterns of regex paths.
 
 ghost use Rattle.std.specs.Prelude.{◌≡◌, ◌==◌, IfOk, MatchOption, None, Some, false, true, if◌then◌else◌};
-ghost use Rattle.kg_entities.specs.Patterns.{is_pattern};
+ghost use Rattle.kg_row_types.specs.Patterns.{is_pattern};
 ghost use Rattle.kg_match.specs.RoutePaths.{pattern_cut};
 
 use kg_text::NoMemory;

@@ -12,8 +12,8 @@ use crate::host::hosts_fit;
 use crate::method::methods_fit;
 use crate::path::{compile, cut_where_fits};
 use crate::pattern::PathPattern;
-use kg_entities::Route;
 use kg_message::Request;
+use kg_row_types::route::Route;
 use kg_text::{NoMemory, TryClone, host_part};
 use std::alloc::Global;
 use std::marker::Model;
@@ -27,7 +27,7 @@ pub struct RouteTest {
 
 impl Model for RouteTest {
     ghost use Rattle.std.specs.Prelude.{◌≡◌};
-    ghost use Rattle.kg_entities.specs.declared.route.Route.{Route as ARoute};
+    ghost use Rattle.kg_row_types.specs.declared.route.Route.{Route as ARoute};
     ghost use Rattle.kg_match.specs.RoutePaths.{patterns_of};
 
     ghost Value = { ARoute };

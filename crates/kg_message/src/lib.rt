@@ -19,6 +19,3 @@ pub use crate::headers::Headers;
 pub use crate::hop_by_hop::{end_to_end, is_hop_by_hop};
 pub use crate::request::Request;
 pub use crate::response::Response;
-
-#[cfg(test)]
-mod tests;

@@ -18,8 +18,6 @@ mod mem_source;
 mod sink;
 mod source;
 mod target;
-#[cfg(test)]
-mod tests;
 
 pub use crate::clock::Clock;
 pub use crate::clocks::{ListClock, StillClock};

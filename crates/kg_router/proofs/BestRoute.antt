@@ -6,7 +6,7 @@ use Rattle.std.proofs.lemmas.List.{get_or_default, get_or-map, length-map}
 use Rattle.std.proofs.lemmas.List.Elements.{All-contains, All-contains_itself}
 use Rattle.std.proofs.lemmas.List.Sums.{AllPass-from_list_all, list_all-from_AllPass}
 use Rattle.std.proofs.lemmas.Map.Made.{AllPairs-from_IsDistinct}
-use Rattle.kg_entities.specs.declared.route.Route.{Route}
+use Rattle.kg_row_types.specs.declared.route.Route.{Route}
 use Rattle.kg_router.specs.Order.{is_before}
 use Rattle.kg_router.specs.Best.{is_first_of}
 use Rattle.kg_router.specs.RouterRows.{HasDistinctRoutes}

@@ -7,7 +7,7 @@ use Rattle.std.specs.List.{AllByRecursion}
 use Rattle.std.specs.Cmp.{IsTotalOrder, IsStrictWeakOrder, nat_cmp_total, int_cmp_total, bool_cmp_total, on_total, back_total, then_total}
 use Rattle.std.proofs.lemmas.Cmp.{ranked}
 use Rattle.std.proofs.lemmas.List.MinMax.{ranks_by}
-use Rattle.kg_entities.specs.declared.route.Route.{Route}
+use Rattle.kg_row_types.specs.declared.route.Route.{Route}
 use Rattle.kg_router.specs.declared.rank.Rank.{Rank}
 use Rattle.kg_router.specs.Order.{lexicographic, route_comparisons, route_cmp, is_before}
 use Rattle.kg_router.specs.Ranks.{rank_of, rank_cmp}

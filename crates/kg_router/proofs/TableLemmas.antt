@@ -10,8 +10,8 @@ use Rattle.std.proofs.lemmas.Bool.{ltb-true}
 use Rattle.std.proofs.lemmas.List.Folds.{find_at}
 use Rattle.std.proofs.lemmas.Option.{same_Some, slice_get-get_or, slice_get_past}
 use Rattle.std.specs.List.Sorted.{IsPermutation}
-use Rattle.kg_entities.specs.declared.route.Route.{Route}
-use Rattle.kg_entities.specs.declared.service.Service.{Service}
+use Rattle.kg_row_types.specs.declared.route.Route.{Route}
+use Rattle.kg_row_types.specs.declared.service.Service.{Service}
 use Rattle.kg_match.specs.Fits.{fits, cut_of, match_of}
 use Rattle.kg_message.specs.declared.request.Request.{Request}
 use Rattle.kg_router.specs.declared.candidate.Candidate.{Candidate}

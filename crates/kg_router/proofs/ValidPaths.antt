@@ -2,10 +2,10 @@
 use Rattle.std.proofs.Common.{◌≡◌, ℕ, Bool, true, false, not, ◌&&◌, ◌||◌, List, [], ◌∷◌, drop, get_or, None, refl, sym, ap, ◌∙◌, nat_eq, true≢false, arith}
 use Rattle.std.proofs.lemmas.List.Sums.{AllPass-from_list_all}
 use Rattle.kg_text.proofs.PathLemmas.{no_normal_form}
-use Rattle.kg_entities.specs.Patterns.{is_pattern}
-use Rattle.kg_entities.specs.ValidRows.{IsValidRoute}
-use Rattle.kg_entities.specs.Words.{is_normal_path, is_regex_path, is_route_path}
-use Rattle.kg_entities.specs.declared.route.Route.{Route}
+use Rattle.kg_row_types.specs.Patterns.{is_pattern}
+use Rattle.kg_row_types.specs.ValidRows.{IsValidRoute}
+use Rattle.kg_row_types.specs.Words.{is_normal_path, is_regex_path, is_route_path}
+use Rattle.kg_row_types.specs.declared.route.Route.{Route}
 use Rattle.kg_match.specs.RoutePaths.{bad_pattern_of, has_bad_pattern}
 use Rattle.kg_match.proofs.CompileLemmas.{position-none}
 use Rattle.kg_router.proofs.TableLemmas.{and_left, and_right}

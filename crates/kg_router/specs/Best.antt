@@ -1,8 +1,8 @@
 -- The route and the service that take a request (Kong Gateway manual, "How Kong matches requests").
 use Rattle.std.specs.Prelude.{ℕ, Bool, ◌&&◌, ◌||◌, ◌==◌, List, filter, find, Option, Some, None, is_some, option_map, option_and_then, if◌then◌else◌}
 use Rattle.std.specs.List.{list_all}
-use Rattle.kg_entities.specs.declared.route.Route.{Route}
-use Rattle.kg_entities.specs.declared.service.Service.{Service}
+use Rattle.kg_row_types.specs.declared.route.Route.{Route}
+use Rattle.kg_row_types.specs.declared.service.Service.{Service}
 use Rattle.kg_match.specs.Fits.{fits, cut_of}
 use Rattle.kg_message.specs.declared.request.Request.{Request}
 use Rattle.kg_router.specs.Order.{is_before}

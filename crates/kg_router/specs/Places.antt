@@ -2,7 +2,7 @@
 use Rattle.std.specs.Prelude.{◌≡◌, ◌==◌, ℕ, List, Option, nat_eq}
 use Rattle.std.specs.List.{position}
 use Rattle.indexmap.specs.IndexMap.{get}
-use Rattle.kg_entities.specs.declared.service.Service.{Service}
+use Rattle.kg_row_types.specs.declared.service.Service.{Service}
 use Rattle.kg_router.specs.declared.places.ServicePlaces.{ServicePlaces}
 
 -- what is kept of an id

@@ -1,7 +1,7 @@
 -- The order of routes, by what it looks at of each.
 use Rattle.std.specs.Prelude.{[], ◌∷◌, length, List}
 use Rattle.std.specs.declared.cmp.Ordering.{Ordering}
-use Rattle.kg_entities.specs.declared.route.Route.{Route}
+use Rattle.kg_row_types.specs.declared.route.Route.{Route}
 use Rattle.kg_match.specs.RoutePaths.{has_regex_path}
 use Rattle.kg_router.specs.declared.rank.Rank.{Rank}
 use Rattle.kg_router.specs.Order.{attribute_count, has_wildcard_host, regex_priority_of, longest_path_len, smaller_first, larger_first, higher_first, with_first, without_first, lexicographic}

@@ -1,8 +1,8 @@
 -- The rows that a router is built from.
 use Rattle.std.specs.Prelude.{ℕ, List, map, nat_eq}
 use Rattle.std.specs.List.{IsDistinct}
-use Rattle.kg_entities.specs.declared.route.Route.{Route}
-use Rattle.kg_entities.specs.declared.service.Service.{Service}
+use Rattle.kg_row_types.specs.declared.route.Route.{Route}
+use Rattle.kg_row_types.specs.declared.service.Service.{Service}
 
 -- a revision's services and routes, in the order of insertion
 pub record RouterRows : Type 0 where

@@ -1,8 +1,8 @@
 -- The routes that can be found, in the order in which they are tried.
 use Rattle.std.specs.Prelude.{◌≡◌, ℕ, ◌<◌, All, Any, List, Some, IsSome, length, slice_index_or}
 use Rattle.std.specs.List.Sorted.{IsSortedByKey}
-use Rattle.kg_entities.specs.declared.route.Route.{Route}
-use Rattle.kg_entities.specs.declared.service.Service.{Service}
+use Rattle.kg_row_types.specs.declared.route.Route.{Route}
+use Rattle.kg_row_types.specs.declared.service.Service.{Service}
 use Rattle.kg_router.specs.declared.candidate.Candidate.{Candidate}
 use Rattle.kg_router.specs.Best.{service_of}
 use Rattle.kg_router.specs.Ranks.{rank_of, rank_cmp}

@@ -2,7 +2,7 @@
 
 ghost use Rattle.std.specs.Prelude.{◌≡◌, ◌&&◌, All, IfOk, IsTrue, OnErr, option_map};
 ghost use Rattle.std.specs.List.{list_any};
-ghost use Rattle.kg_entities.specs.ValidRows.{IsValidRoute};
+ghost use Rattle.kg_row_types.specs.ValidRows.{IsValidRoute};
 ghost use Rattle.kg_match.specs.Fits.{fits_but_path, match_of};
 ghost use Rattle.kg_match.specs.RoutePaths.{has_regex_path};
 ghost use Rattle.kg_router.specs.Best.{best_choice};

@@ -6,8 +6,6 @@ mod candidate;
 mod generation;
 mod places;
 mod rank;
-#[cfg(test)]
-mod tests;
 
 pub use crate::generation::{Choice, RouterGen};
 pub use crate::rank::{route_order_is_strict, route_order_is_total};

@@ -3,18 +3,18 @@ use Rattle.std.proofs.Common.{◌≡◌, ℕ, Bool, true, false, not, ◌&&◌, 
 use Rattle.std.specs.Option.{option_or}
 use Rattle.serde_json.specs.Data.{Data}
 use Rattle.serde_json.specs.View.{view}
-use Rattle.kg_entities.specs.Entities.{id_of_row}
-use Rattle.kg_entities.specs.RowChanges.{count_of, has_row}
-use Rattle.kg_entities.specs.RowLists.{RowLists}
-use Rattle.kg_entities.specs.declared.entity.Entity.{Entity}
-use Rattle.kg_entities.specs.declared.entity.Kind.{Kind}
-use Rattle.kg_rows.specs.Allowed.{has_named_rows, is_allowed, is_unused}
-use Rattle.kg_rows.specs.Claims.{claimed}
+use Rattle.kg_row_types.specs.Entities.{id_of_row}
+use Rattle.kg_row_types.specs.RowChanges.{count_of, has_row}
+use Rattle.kg_row_types.specs.RowLists.{RowLists}
+use Rattle.kg_row_types.specs.declared.entity.Entity.{Entity}
+use Rattle.kg_row_types.specs.declared.entity.Kind.{Kind}
+use Rattle.kg_row_changes.specs.Allowed.{has_named_rows, is_allowed, is_unused}
+use Rattle.kg_row_changes.specs.Claims.{claimed}
 use Rattle.kg_rows.specs.Decision.{base_by, Decides, decision, deletion, full, inserted, insertion, missing, needed, patched, proposed, put, put_over, replaced, still_named, taken_by_other, unless, violation}
 use Rattle.kg_rows.specs.References.{link_of, links_in, links_of, lost_field, meant_in, strange_field}
 use Rattle.kg_rows.specs.Selections.{place_of, rows_in, selected}
-use Rattle.kg_rows.specs.declared.command.Command.{Command}
-use Rattle.kg_rows.specs.declared.command.Command.TheVariants as command
+use Rattle.kg_row_values.specs.declared.command.Command.{Command}
+use Rattle.kg_row_values.specs.declared.command.Command.TheVariants as command
 use Rattle.kg_rows.specs.declared.draft.DecideError.{DecideError}
 use Rattle.kg_rows.specs.declared.draft.Draft.{Draft}
 use Rattle.kg_rows.specs.declared.draft.Draft.TheVariants.{Insert, Patch, Put, Delete}
@@ -27,10 +27,10 @@ use Rattle.kg_rows.proofs.AnswerLemmas.{needed_parts, ok_is, then_parts, unless_
 use Rattle.kg_rows.proofs.FoundLemmas.{is_there}
 use Rattle.kg_rows.proofs.FreeLemmas.{covers_new, covers_old, CoversOthers, has_new_id, has_what_it_names, is_unique_row, or_first, or_second}
 use Rattle.kg_rows.proofs.MadeLemmas.{id_over_again, id_over_old, kind_over}
-use Rattle.kg_schema.specs.Bases.{BaseValue, Again, New, Old, made_at}
+use Rattle.kg_row_making.specs.Bases.{BaseValue, Again, New, Old, made_at}
 use Rattle.kg_schema.specs.Between.{faults_between}
 use Rattle.kg_schema.specs.Finished.{row_over}
-use Rattle.kg_schema.specs.declared.base.Links.{Links}
+use Rattle.kg_row_making.specs.declared.base.Links.{Links}
 
 -- ---- tests
 

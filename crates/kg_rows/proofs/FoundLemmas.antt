@@ -4,22 +4,22 @@ use Rattle.std.proofs.lemmas.Bool.{eq-eqb}
 use Rattle.std.specs.List.{list_any}
 use Rattle.std.specs.Option.{option_or}
 use Rattle.std.specs.Str.{bytes_eq}
-use Rattle.kg_entities.specs.Entities.{id_of_row}
-use Rattle.kg_entities.specs.RowLists.{RowLists}
-use Rattle.kg_entities.specs.declared.consumer.AclRow.{AclRow}
-use Rattle.kg_entities.specs.declared.consumer.BasicCred.{BasicCred}
-use Rattle.kg_entities.specs.declared.consumer.Consumer.{Consumer}
-use Rattle.kg_entities.specs.declared.consumer.KeyCred.{KeyCred}
-use Rattle.kg_entities.specs.declared.entity.Entity.{Entity}
-use Rattle.kg_entities.specs.declared.entity.Entity.TheVariants as row
-use Rattle.kg_entities.specs.declared.entity.Kind.{Kind}
-use Rattle.kg_entities.specs.declared.entity.Kind.TheVariants as kind
-use Rattle.kg_entities.specs.declared.plugin.PluginRow.{PluginRow}
-use Rattle.kg_entities.specs.declared.route.Route.{Route}
-use Rattle.kg_entities.specs.declared.service.Service.{Service}
-use Rattle.kg_entities.specs.Ids.{id_of}
-use Rattle.kg_entities.specs.Lookups.{is_text}
-use Rattle.kg_entities.specs.RowChanges.{has_row, names_row}
+use Rattle.kg_row_types.specs.Entities.{id_of_row}
+use Rattle.kg_row_types.specs.RowLists.{RowLists}
+use Rattle.kg_row_types.specs.declared.consumer.AclRow.{AclRow}
+use Rattle.kg_row_types.specs.declared.consumer.BasicCred.{BasicCred}
+use Rattle.kg_row_types.specs.declared.consumer.Consumer.{Consumer}
+use Rattle.kg_row_types.specs.declared.consumer.KeyCred.{KeyCred}
+use Rattle.kg_row_types.specs.declared.entity.Entity.{Entity}
+use Rattle.kg_row_types.specs.declared.entity.Entity.TheVariants as row
+use Rattle.kg_row_types.specs.declared.entity.Kind.{Kind}
+use Rattle.kg_row_types.specs.declared.entity.Kind.TheVariants as kind
+use Rattle.kg_row_types.specs.declared.plugin.PluginRow.{PluginRow}
+use Rattle.kg_row_types.specs.declared.route.Route.{Route}
+use Rattle.kg_row_types.specs.declared.service.Service.{Service}
+use Rattle.kg_row_types.specs.Ids.{id_of}
+use Rattle.kg_row_types.specs.Lookups.{is_text}
+use Rattle.kg_row_types.specs.RowChanges.{has_row, names_row}
 use Rattle.kg_rows.specs.Selections.{is_owned_under, is_route_under, row_with_id, row_with_word, rows_in, rows_under, selected}
 use Rattle.kg_rows.specs.declared.place.Place.{Place}
 use Rattle.kg_rows.specs.declared.place.Place.TheVariants.{Anywhere, Under}

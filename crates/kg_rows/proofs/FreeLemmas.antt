@@ -3,28 +3,28 @@ use Rattle.std.proofs.Common.{◌≡◌, ℕ, Bool, true, false, cond, not, ◌&
 use Rattle.std.specs.List.{list_any}
 use Rattle.std.specs.Option.{option_or}
 use Rattle.std.specs.Str.{bytes_eq}
-use Rattle.kg_entities.specs.Entities.{kind_of, id_of_row}
-use Rattle.kg_entities.specs.Lookups.{is_text}
-use Rattle.kg_entities.specs.RowChanges.{has_row}
-use Rattle.kg_entities.specs.RowLists.{RowLists}
-use Rattle.kg_entities.specs.declared.entity.Entity.{Entity}
-use Rattle.kg_entities.specs.declared.entity.Entity.TheVariants as row
-use Rattle.kg_entities.specs.declared.entity.Kind.{Kind}
-use Rattle.kg_entities.specs.declared.entity.Kind.TheVariants as kind
-use Rattle.kg_entities.specs.ValidRows.{same_membership, same_place}
-use Rattle.kg_entities.specs.declared.consumer.AclRow.{AclRow}
-use Rattle.kg_entities.specs.declared.consumer.BasicCred.{BasicCred}
-use Rattle.kg_entities.specs.declared.consumer.Consumer.{Consumer}
-use Rattle.kg_entities.specs.declared.consumer.KeyCred.{KeyCred}
-use Rattle.kg_entities.specs.declared.plugin.PluginRow.{PluginRow}
-use Rattle.kg_entities.specs.declared.route.Route.{Route}
-use Rattle.kg_entities.specs.declared.service.Service.{Service}
-use Rattle.kg_rows.specs.Allowed.{has_if_set, has_named_rows, is_free, is_taken, is_unique}
-use Rattle.kg_rows.specs.Claims.{claimed, holder, id_holder, is_other, taken, text_holder}
+use Rattle.kg_row_types.specs.Entities.{kind_of, id_of_row}
+use Rattle.kg_row_types.specs.Lookups.{is_text}
+use Rattle.kg_row_types.specs.RowChanges.{has_row}
+use Rattle.kg_row_types.specs.RowLists.{RowLists}
+use Rattle.kg_row_types.specs.declared.entity.Entity.{Entity}
+use Rattle.kg_row_types.specs.declared.entity.Entity.TheVariants as row
+use Rattle.kg_row_types.specs.declared.entity.Kind.{Kind}
+use Rattle.kg_row_types.specs.declared.entity.Kind.TheVariants as kind
+use Rattle.kg_row_types.specs.ValidRows.{same_membership, same_place}
+use Rattle.kg_row_types.specs.declared.consumer.AclRow.{AclRow}
+use Rattle.kg_row_types.specs.declared.consumer.BasicCred.{BasicCred}
+use Rattle.kg_row_types.specs.declared.consumer.Consumer.{Consumer}
+use Rattle.kg_row_types.specs.declared.consumer.KeyCred.{KeyCred}
+use Rattle.kg_row_types.specs.declared.plugin.PluginRow.{PluginRow}
+use Rattle.kg_row_types.specs.declared.route.Route.{Route}
+use Rattle.kg_row_types.specs.declared.service.Service.{Service}
+use Rattle.kg_row_changes.specs.Allowed.{has_if_set, has_named_rows, is_free, is_taken, is_unique}
+use Rattle.kg_row_changes.specs.Claims.{claimed, holder, id_holder, is_other, taken, text_holder}
 use Rattle.kg_rows.specs.References.{is_lost, is_placeholder, links_of, lost_field}
 use Rattle.kg_rows.specs.declared.meaning.Meaning.{Meaning}
 use Rattle.kg_rows.specs.declared.meaning.Meanings.{Meanings}
-use Rattle.kg_schema.specs.declared.base.Links.{Links}
+use Rattle.kg_row_making.specs.declared.base.Links.{Links}
 
 -- ---- options and tests
 

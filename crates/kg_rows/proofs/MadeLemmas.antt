@@ -1,17 +1,17 @@
 -- The kind and the id of a row that a body makes.
 use Rattle.std.proofs.Common.{◌≡◌, ℕ, Option, None, Some, refl, ◌∙◌}
 use Rattle.serde_json.specs.Data.{Data}
-use Rattle.kg_entities.specs.Entities.{kind_of, id_of_row}
-use Rattle.kg_entities.specs.declared.entity.Entity.{Entity}
-use Rattle.kg_entities.specs.declared.entity.Entity.TheVariants as row
-use Rattle.kg_entities.specs.declared.entity.Kind.{Kind}
-use Rattle.kg_entities.specs.declared.entity.Kind.TheVariants as kind
-use Rattle.kg_entities.specs.declared.service.Service.{Service}
-use Rattle.kg_schema.specs.Bases.{BaseValue, Again, Old, stamps_of}
+use Rattle.kg_row_types.specs.Entities.{kind_of, id_of_row}
+use Rattle.kg_row_types.specs.declared.entity.Entity.{Entity}
+use Rattle.kg_row_types.specs.declared.entity.Entity.TheVariants as row
+use Rattle.kg_row_types.specs.declared.entity.Kind.{Kind}
+use Rattle.kg_row_types.specs.declared.entity.Kind.TheVariants as kind
+use Rattle.kg_row_types.specs.declared.service.Service.{Service}
+use Rattle.kg_row_making.specs.Bases.{BaseValue, Again, Old, stamps_of}
 use Rattle.kg_schema.specs.Finished.{acl_before, address_over, basic_before, consumer_before, key_before, plugin_before, route_before, row_over, service_before}
-use Rattle.kg_schema.specs.Settings.{url_at}
-use Rattle.kg_schema.specs.declared.base.Links.{Links}
-use Rattle.kg_schema.specs.declared.url.Url.{Url}
+use Rattle.kg_bodies.specs.Settings.{url_at}
+use Rattle.kg_row_making.specs.declared.base.Links.{Links}
+use Rattle.kg_field_rules.specs.declared.url.Url.{Url}
 
 pub kind_over : (of_kind : Kind) (body : Data) (base : BaseValue) (links : Links) → kind_of (row_over of_kind body base links) ≡ of_kind
 unfolding row_over

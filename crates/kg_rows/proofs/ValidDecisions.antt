@@ -5,25 +5,25 @@ use Rattle.std.specs.Option.{option_or}
 use Rattle.std.specs.Str.{bytes_eq}
 use Rattle.serde_json.specs.Data.{Data}
 use Rattle.serde_json.specs.View.{view}
-use Rattle.kg_entities.specs.Entities.{id_of_row}
-use Rattle.kg_entities.specs.Ids.{id_of}
-use Rattle.kg_entities.specs.Lookups.{is_text}
-use Rattle.kg_entities.specs.RowChanges.{names_row}
-use Rattle.kg_entities.specs.RowLists.{RowLists}
-use Rattle.kg_entities.specs.ValidRows.{AreValidRows, IsValidAcl, IsValidBasicCred, IsValidConsumer, IsValidKeyCred, IsValidPlugin, IsValidRoute, IsValidRow, IsValidService}
-use Rattle.kg_entities.specs.declared.consumer.AclRow.{AclRow}
-use Rattle.kg_entities.specs.declared.consumer.BasicCred.{BasicCred}
-use Rattle.kg_entities.specs.declared.consumer.KeyCred.{KeyCred}
-use Rattle.kg_entities.specs.declared.entity.Entity.{Entity}
-use Rattle.kg_entities.specs.declared.entity.Entity.TheVariants as row
-use Rattle.kg_entities.specs.declared.entity.Kind.{Kind}
-use Rattle.kg_entities.specs.declared.entity.Kind.TheVariants as kind
+use Rattle.kg_row_types.specs.Entities.{id_of_row}
+use Rattle.kg_row_types.specs.Ids.{id_of}
+use Rattle.kg_row_types.specs.Lookups.{is_text}
+use Rattle.kg_row_types.specs.RowChanges.{names_row}
+use Rattle.kg_row_types.specs.RowLists.{RowLists}
+use Rattle.kg_row_types.specs.ValidRows.{AreValidRows, IsValidAcl, IsValidBasicCred, IsValidConsumer, IsValidKeyCred, IsValidPlugin, IsValidRoute, IsValidRow, IsValidService}
+use Rattle.kg_row_types.specs.declared.consumer.AclRow.{AclRow}
+use Rattle.kg_row_types.specs.declared.consumer.BasicCred.{BasicCred}
+use Rattle.kg_row_types.specs.declared.consumer.KeyCred.{KeyCred}
+use Rattle.kg_row_types.specs.declared.entity.Entity.{Entity}
+use Rattle.kg_row_types.specs.declared.entity.Entity.TheVariants as row
+use Rattle.kg_row_types.specs.declared.entity.Kind.{Kind}
+use Rattle.kg_row_types.specs.declared.entity.Kind.TheVariants as kind
 use Rattle.kg_rows.specs.Decision.{base_by, base_by_text, base_by_word, conflict, Decides, decision, deletion, full, inserted, insertion, needed, patched, proposed, put, put_over, replaced, still_named, unless, violation}
 use Rattle.kg_rows.specs.References.{link_of, links_in, meant_in, strange_field}
 use Rattle.kg_rows.specs.Selections.{is_owned_under, is_route_under, place_of, row_with_id, row_with_word, rows_in, selected}
-use Rattle.kg_rows.specs.ValidCommands.{IsValidCommand}
-use Rattle.kg_rows.specs.declared.command.Command.{Command}
-use Rattle.kg_rows.specs.declared.command.Command.TheVariants as command
+use Rattle.kg_row_changes.specs.ValidCommands.{IsValidCommand}
+use Rattle.kg_row_values.specs.declared.command.Command.{Command}
+use Rattle.kg_row_values.specs.declared.command.Command.TheVariants as command
 use Rattle.kg_rows.specs.declared.draft.DecideError.{DecideError}
 use Rattle.kg_rows.specs.declared.draft.Draft.{Draft}
 use Rattle.kg_rows.specs.declared.draft.Draft.TheVariants.{Insert, Patch, Put, Delete}
@@ -33,12 +33,12 @@ use Rattle.kg_rows.specs.declared.select.Parent.{Parent}
 use Rattle.kg_rows.specs.declared.select.Select.{Select}
 use Rattle.kg_rows.specs.declared.select.Select.TheVariants.{Id, Word as Worded}
 use Rattle.kg_rows.proofs.AnswerLemmas.{needed_parts, ok_is, then_parts, unless_none, unless_rest}
-use Rattle.kg_schema.specs.Bases.{BaseValue, Again, New, Old, Word, made_at}
+use Rattle.kg_row_making.specs.Bases.{BaseValue, Again, New, Old, Word, made_at}
 use Rattle.kg_schema.specs.Between.{accepts_word, faults_between}
 use Rattle.kg_schema.specs.Finished.{row_over}
-use Rattle.kg_schema.specs.Rules.{Fault}
+use Rattle.kg_field_rules.specs.Rules.{Fault}
 use Rattle.kg_schema.specs.ValidBases.{IsValidBase, MakesValidRows}
-use Rattle.kg_schema.specs.declared.base.Links.{Links}
+use Rattle.kg_row_making.specs.declared.base.Links.{Links}
 
 unwrapped : {X : Type 0} {x y : X} → Some x ≡ Some y → x ≡ y
 unwrapped {X} {x} same = ap (λ o. elim o [ None ↦ x | Some z ↦ z ]) same

@@ -6,19 +6,19 @@ use Rattle.std.specs.Prelude.{◌≡◌, ℕ, ◌/◌, Bool, true, false, nat_lt
 use Rattle.std.specs.Option.{option_or}
 use Rattle.serde_json.specs.Data.{Data}
 use Rattle.serde_json.specs.View.{view}
-use Rattle.kg_entities.specs.Entities.{id_of_row}
-use Rattle.kg_entities.specs.Ids.{id_of}
-use Rattle.kg_entities.specs.RowChanges.{count_of}
-use Rattle.kg_entities.specs.RowLists.{RowLists}
-use Rattle.kg_entities.specs.declared.entity.Entity.{Entity}
-use Rattle.kg_entities.specs.declared.entity.Kind.{Kind}
-use Rattle.kg_entities.specs.declared.entity.Kind.TheVariants as kind
-use Rattle.kg_rows.specs.Allowed.{is_unused}
-use Rattle.kg_rows.specs.Claims.{claimed}
+use Rattle.kg_row_types.specs.Entities.{id_of_row}
+use Rattle.kg_row_types.specs.Ids.{id_of}
+use Rattle.kg_row_types.specs.RowChanges.{count_of}
+use Rattle.kg_row_types.specs.RowLists.{RowLists}
+use Rattle.kg_row_types.specs.declared.entity.Entity.{Entity}
+use Rattle.kg_row_types.specs.declared.entity.Kind.{Kind}
+use Rattle.kg_row_types.specs.declared.entity.Kind.TheVariants as kind
+use Rattle.kg_row_changes.specs.Allowed.{is_unused}
+use Rattle.kg_row_changes.specs.Claims.{claimed}
 use Rattle.kg_rows.specs.References.{link_of, links_in, links_of, lost_field, meant_in, strange_field}
 use Rattle.kg_rows.specs.Selections.{place_of, rows_in, selected}
-use Rattle.kg_rows.specs.declared.command.Command.{Command}
-use Rattle.kg_rows.specs.declared.command.Command.TheVariants as command
+use Rattle.kg_row_values.specs.declared.command.Command.{Command}
+use Rattle.kg_row_values.specs.declared.command.Command.TheVariants as command
 use Rattle.kg_rows.specs.declared.draft.DecideError.{DecideError}
 use Rattle.kg_rows.specs.declared.draft.DecideError.TheVariants.{Refused, NoMemory}
 use Rattle.kg_rows.specs.declared.draft.Draft.{Draft}
@@ -29,12 +29,12 @@ use Rattle.kg_rows.specs.declared.meaning.Meanings.{Meanings}
 use Rattle.kg_rows.specs.declared.select.Parent.{Parent}
 use Rattle.kg_rows.specs.declared.select.Select.{Select}
 use Rattle.kg_rows.specs.declared.select.Select.TheVariants.{Id, Word}
-use Rattle.kg_schema.specs.Bases.{BaseValue, made_at}
-use Rattle.kg_schema.specs.Bases as base
+use Rattle.kg_row_making.specs.Bases.{BaseValue, made_at}
+use Rattle.kg_row_making.specs.Bases as base
 use Rattle.kg_schema.specs.Between.{accepts_word, faults_between}
 use Rattle.kg_schema.specs.Finished.{row_over}
-use Rattle.kg_schema.specs.Rules.{Fault, in_order, listed}
-use Rattle.kg_schema.specs.declared.base.Links.{Links}
+use Rattle.kg_field_rules.specs.Rules.{Fault, in_order, listed}
+use Rattle.kg_row_making.specs.declared.base.Links.{Links}
 
 -- ---- steps
 

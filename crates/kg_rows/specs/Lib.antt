@@ -1,12 +1,3 @@
-pub mod Allowed
-pub mod ByteOrder
-pub mod Candidates
-pub mod Changes
-pub mod Claims
 pub mod Decision
 pub mod References
-pub mod Rows
 pub mod Selections
-pub mod ValidCommands
-pub mod Values
-pub mod Watching

@@ -3,27 +3,27 @@
 use Rattle.std.specs.Prelude.{ℕ, ◌==◌, Bool, true, false, not, ◌||◌, Option, Some, None, List, replicate, codes, if◌then◌else◌}
 use Rattle.std.specs.Option.{option_map_or}
 use Rattle.serde_json.specs.Data.{Data}
-use Rattle.kg_entities.specs.Entities.{id_of_row}
-use Rattle.kg_entities.specs.Ids.{drawn_id}
-use Rattle.kg_entities.specs.RowChanges.{has_row}
-use Rattle.kg_entities.specs.RowLists.{RowLists}
-use Rattle.kg_entities.specs.declared.entity.Entity.{Entity}
-use Rattle.kg_entities.specs.declared.entity.Entity.TheVariants as row
-use Rattle.kg_entities.specs.declared.entity.Kind.{Kind}
-use Rattle.kg_entities.specs.declared.entity.Kind.TheVariants as kind
+use Rattle.kg_row_types.specs.Entities.{id_of_row}
+use Rattle.kg_row_types.specs.Ids.{drawn_id}
+use Rattle.kg_row_types.specs.RowChanges.{has_row}
+use Rattle.kg_row_types.specs.RowLists.{RowLists}
+use Rattle.kg_row_types.specs.declared.entity.Entity.{Entity}
+use Rattle.kg_row_types.specs.declared.entity.Entity.TheVariants as row
+use Rattle.kg_row_types.specs.declared.entity.Kind.{Kind}
+use Rattle.kg_row_types.specs.declared.entity.Kind.TheVariants as kind
 use Rattle.kg_rows.specs.Selections.{row_with_word}
 use Rattle.kg_rows.specs.declared.meaning.Meaning.{Meaning}
 use Rattle.kg_rows.specs.declared.meaning.Meaning.TheVariants.{Unset, Nobody, Row}
 use Rattle.kg_rows.specs.declared.meaning.Meanings.{Meanings}
 use Rattle.kg_rows.specs.declared.place.Place.{Place}
 use Rattle.kg_rows.specs.declared.place.Place.TheVariants.{Anywhere, Under}
-use Rattle.kg_schema.specs.Settings.{reference_at}
-use Rattle.kg_schema.specs.declared.base.Links.{Links}
-use Rattle.kg_schema.specs.declared.base.ParentField.{ParentField}
-use Rattle.kg_schema.specs.declared.base.ParentField.TheVariants as parent
-use Rattle.kg_schema.specs.declared.reference.Mention.TheVariants as mention
-use Rattle.kg_schema.specs.declared.reference.Reference.{Reference}
-use Rattle.kg_schema.specs.declared.reference.Reference.TheVariants.{Id, Name}
+use Rattle.kg_bodies.specs.Settings.{reference_at}
+use Rattle.kg_row_making.specs.declared.base.Links.{Links}
+use Rattle.kg_row_making.specs.declared.base.ParentField.{ParentField}
+use Rattle.kg_row_making.specs.declared.base.ParentField.TheVariants as parent
+use Rattle.kg_field_tables.specs.declared.reference.Mention.TheVariants as mention
+use Rattle.kg_field_tables.specs.declared.reference.Reference.{Reference}
+use Rattle.kg_field_tables.specs.declared.reference.Reference.TheVariants.{Id, Name}
 
 -- ---- the parent
 

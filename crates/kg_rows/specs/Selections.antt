@@ -2,16 +2,16 @@
 use Rattle.std.specs.Prelude.{ℕ, Bool, false, ◌==◌, List, filter, find, Option, Some, None, option_map, option_and_then}
 use Rattle.std.specs.Option.{option_or}
 use Rattle.std.specs.Str.{bytes_eq}
-use Rattle.kg_entities.specs.Entities.{id_of_row}
-use Rattle.kg_entities.specs.Ids.{id_of}
-use Rattle.kg_entities.specs.Lookups.{service_named, route_named, consumer_with_username, cred_with_key, cred_with_username}
-use Rattle.kg_entities.specs.RowChanges.{names_row}
-use Rattle.kg_entities.specs.RowLists.{RowLists}
-use Rattle.kg_entities.specs.declared.entity.Entity.{Entity}
-use Rattle.kg_entities.specs.declared.entity.Entity.TheVariants as row
-use Rattle.kg_entities.specs.declared.entity.Kind.{Kind}
-use Rattle.kg_entities.specs.declared.entity.Kind.TheVariants as kind
-use Rattle.kg_entities.specs.declared.route.Route.{Route}
+use Rattle.kg_row_types.specs.Entities.{id_of_row}
+use Rattle.kg_row_types.specs.Ids.{id_of}
+use Rattle.kg_row_types.specs.Lookups.{service_named, route_named, consumer_with_username, cred_with_key, cred_with_username}
+use Rattle.kg_row_types.specs.RowChanges.{names_row}
+use Rattle.kg_row_types.specs.RowLists.{RowLists}
+use Rattle.kg_row_types.specs.declared.entity.Entity.{Entity}
+use Rattle.kg_row_types.specs.declared.entity.Entity.TheVariants as row
+use Rattle.kg_row_types.specs.declared.entity.Kind.{Kind}
+use Rattle.kg_row_types.specs.declared.entity.Kind.TheVariants as kind
+use Rattle.kg_row_types.specs.declared.route.Route.{Route}
 use Rattle.kg_rows.specs.declared.place.Place.{Place}
 use Rattle.kg_rows.specs.declared.place.Place.TheVariants.{Anywhere, Under}
 use Rattle.kg_rows.specs.declared.select.Parent.{Parent}

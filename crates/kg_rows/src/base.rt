@@ -2,7 +2,7 @@
 
 ghost use Rattle.std.specs.Prelude.{◌≡◌, IfOk, option_map};
 ghost use Rattle.kg_rows.specs.Decision.{base_by, base_by_text, base_by_word};
-ghost use Rattle.kg_schema.specs.Bases.{base_of, made_at};
+ghost use Rattle.kg_row_making.specs.Bases.{base_of, made_at};
 
 use crate::select::Select;
 use kg_entities::{Entity, Id, Kind};

@@ -2,25 +2,25 @@
 
 ghost use Rattle.std.specs.Prelude.{◌≡◌, Ok, IfOk, IsTrue};
 ghost use Rattle.serde_json.specs.View.{view};
-ghost use Rattle.kg_rows.specs.Allowed.{is_allowed};
+ghost use Rattle.kg_row_changes.specs.Allowed.{is_allowed};
 ghost use Rattle.kg_rows.specs.Decision.{Decides, IsProper, decision, deletion, insertion, patched, put_over, replaced, still_named, unless};
 ghost use Rattle.kg_rows.specs.References.{link_of};
-ghost use Rattle.kg_schema.specs.Bases as base_again;
-ghost use Rattle.kg_schema.specs.Bases.{made_at};
-ghost use Rattle.kg_entities.specs.Entities.{id_of_row};
-ghost use Rattle.kg_entities.specs.ValidRows.{AreValidRows};
-ghost use Rattle.kg_rows.specs.ValidCommands.{IsValidCommand};
+ghost use Rattle.kg_row_making.specs.Bases as base_again;
+ghost use Rattle.kg_row_making.specs.Bases.{made_at};
+ghost use Rattle.kg_row_types.specs.Entities.{id_of_row};
+ghost use Rattle.kg_row_types.specs.ValidRows.{AreValidRows};
+ghost use Rattle.kg_row_changes.specs.ValidCommands.{IsValidCommand};
 ghost use Rattle.kg_rows.specs.Selections.{rows_in, selected};
-ghost use Rattle.kg_rows.specs.declared.command.Command.TheVariants as command;
+ghost use Rattle.kg_row_values.specs.declared.command.Command.TheVariants as command;
 
-use crate::admit::is_unused;
 use crate::base::{base_by, made_at};
-use crate::command::Command;
 use crate::draft::{DecideError, Draft, Refusal};
 use crate::place::{Place, link_of, place_of, selected_in};
 use crate::proposal::{inserted, replaced};
 use crate::select::{Parent, Select};
 use kg_entities::{Entity, Id, Kind, Rows};
+use kg_row_changes::admit::is_unused;
+use kg_row_values::command::Command;
 use kg_schema::{Base, Form, Links, finished_rows_are_valid};
 use kg_text::{NoMemory, Text};
 use std::alloc::Global;

@@ -3,7 +3,7 @@
 ghost use Rattle.std.specs.Prelude.{◌≡◌, ◌==◌, IfOk, find, option_map};
 ghost use Rattle.std.specs.Option.{option_copied};
 ghost use Rattle.std.specs.Str.{bytes_eq};
-ghost use Rattle.kg_entities.specs.declared.entity.Entity.TheVariants as of_row;
+ghost use Rattle.kg_row_types.specs.declared.entity.Entity.TheVariants as of_row;
 ghost use Rattle.kg_rows.specs.Selections.{row_with_id, row_with_word, key_cred_of_word, selected};
 
 use crate::select::Select;

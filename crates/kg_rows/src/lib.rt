@@ -4,34 +4,25 @@
 //! which order commands come, is said by the crates above.
 #![tactic(auto)]
 
-mod admit;
 mod base;
-mod candidates;
-mod change;
-mod claims;
-mod command;
 mod decision;
 mod draft;
 mod find;
-mod generations;
-mod laws;
 mod meaning;
 mod place;
 mod proposal;
-mod same;
 mod select;
-mod touched;
 mod under;
-mod value;
-mod watch;
 
-pub use crate::admit::allowed;
-pub use crate::change::apply;
-pub use crate::command::Command;
 pub use crate::decision::decide;
 pub use crate::draft::{DecideError, Draft, Refusal};
 pub use crate::find::selected;
-pub use crate::laws::{allowed_commands_make_valid_rows, last_command_changes_what_differs};
 pub use crate::select::{Parent, Select};
-pub use crate::touched::Touched;
-pub use crate::value::value_of;
+pub use kg_row_changes::admit::allowed;
+pub use kg_row_changes::change::apply;
+pub use kg_row_changes::laws::{
+    allowed_commands_make_valid_rows, last_command_changes_what_differs,
+};
+pub use kg_row_values::command::Command;
+pub use kg_row_values::touched::Touched;
+pub use kg_row_values::value::value_of;

@@ -2,7 +2,7 @@
 
 ghost use Rattle.std.specs.Prelude.{◌≡◌, None, Some, IfOk, option_map};
 ghost use Rattle.serde_json.specs.View.{view};
-ghost use Rattle.kg_entities.specs.declared.entity.Kind.TheVariants as kind;
+ghost use Rattle.kg_row_types.specs.declared.entity.Kind.TheVariants as kind;
 ghost use Rattle.kg_rows.specs.References.{id_meant, is_lost, is_placeholder, is_strange, linked, links_in, links_of, lost_field, meaning, meant_in, strange_field};
 
 use crate::place::no_links;

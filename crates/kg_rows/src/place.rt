@@ -1,7 +1,7 @@
 //! Where rows are asked for: among all, or under another row.
 
 ghost use Rattle.std.specs.Prelude.{◌≡◌, IfOk, option_map};
-ghost use Rattle.kg_entities.specs.Entities.{id_of_row};
+ghost use Rattle.kg_row_types.specs.Entities.{id_of_row};
 ghost use Rattle.kg_rows.specs.Selections.{parent_id, place_of, rows_in, selected};
 ghost use Rattle.kg_rows.specs.References.{link_of, link_to, no_links};
 

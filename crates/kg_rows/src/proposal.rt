@@ -3,15 +3,15 @@
 ghost use Rattle.std.specs.Prelude.{◌≡◌, None, Some, Ok, IfOk, IfErr, OnOk};
 ghost use Rattle.serde_json.specs.View.{view};
 ghost use Rattle.kg_rows.specs.Decision.{IsRefusedBy, Decides, Refuses, conflict, inserted, missing, proposed, replaced, taken_by_other, violation};
-ghost use Rattle.kg_schema.specs.Bases.{base_of};
+ghost use Rattle.kg_row_making.specs.Bases.{base_of};
 ghost use Rattle.kg_schema.specs.Between.{faults_between};
 ghost use Rattle.kg_schema.specs.Finished.{row_over};
 
-use crate::claims::claimed;
-use crate::command::Command;
 use crate::draft::{DecideError, Refusal};
 use crate::meaning::{Meanings, links_in, links_of, lost_field, meant_in, strange_field};
 use kg_entities::{Entity, Id, Rows};
+use kg_row_changes::claims::claimed;
+use kg_row_values::command::Command;
 use kg_schema::{Base, Form, FormError, Links, ParentField, finish_under};
 use kg_text::{NoMemory, Text};
 use std::alloc::Global;

@@ -3,10 +3,10 @@
 ghost use Rattle.std.specs.Prelude.{◌≡◌, ℕ, ◌==◌, ◌&&◌, Bool, false, List as Sequence, IfOk, filter, find, option_map};
 ghost use Rattle.std.specs.Option.{option_copied, option_to_list};
 ghost use Rattle.std.specs.Str.{bytes_eq};
-ghost use Rattle.kg_entities.specs.Lookups.{is_text};
-ghost use Rattle.kg_entities.specs.RowChanges.{names_row};
-ghost use Rattle.kg_entities.specs.declared.entity.Entity.TheVariants as of_row;
-ghost use Rattle.kg_entities.specs.declared.entity.Kind.{Kind as Upper};
+ghost use Rattle.kg_row_types.specs.Lookups.{is_text};
+ghost use Rattle.kg_row_types.specs.RowChanges.{names_row};
+ghost use Rattle.kg_row_types.specs.declared.entity.Entity.TheVariants as of_row;
+ghost use Rattle.kg_row_types.specs.declared.entity.Kind.{Kind as Upper};
 ghost use Rattle.kg_rows.specs.Selections.{is_owned_under, is_route_under, key_cred_of_word, row_with_id, row_with_word, rows_under, selected};
 
 use crate::find::{

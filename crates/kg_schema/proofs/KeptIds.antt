@@ -12,11 +12,11 @@ use Rattle.std.specs.Prelude.{IfSome, IsTrue}
 use Rattle.std.specs.Str.{IsAscii, bytes_eq}
 use Rattle.uuid.proofs.TextLemmas.{by_index_ascii, by_index_at, by_index_length, nibble_small}
 use Rattle.uuid.specs.Text.{by_index, byte_of_digits, digit_place, digits_of, has_hyphens, has_urn_prefix, hex_digit, hyphen, hyphenated_text, is_hex_digit, is_hyphen_place, lower, nibble, open_brace, close_brace, parsed, parsed_braced, parsed_hyphenated, parsed_simple, parsed_urn, value_of}
-use Rattle.kg_entities.proofs.IdLemmas.{id_of-printed}
-use Rattle.kg_entities.specs.Ids.{id_of, printed}
-use Rattle.kg_entities.specs.Words.{has_length, has_no_controls, is_free_text, is_printed_if_id}
+use Rattle.kg_row_types.proofs.IdLemmas.{id_of-printed}
+use Rattle.kg_row_types.specs.Ids.{id_of, printed}
+use Rattle.kg_row_types.specs.Words.{has_length, has_no_controls, is_free_text, is_printed_if_id}
 use Rattle.kg_schema.proofs.ReadTexts.{Takes, bounded}
-use Rattle.kg_schema.specs.declared.word.Word.TheVariants as word
+use Rattle.kg_field_rules.specs.declared.word.Word.TheVariants as word
 
 -- ---- the id that a text tells fits 128 bits
 

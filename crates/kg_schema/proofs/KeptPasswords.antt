@@ -10,9 +10,9 @@ use Rattle.hex.proofs.HexLemmas.{length-encode_with}
 use Rattle.hex.specs.Hex.{encode_lower, encode_with, lower_digits}
 use Rattle.sha2.proofs.Facts256.{length-sha256}
 use Rattle.sha2.specs.Sha256.{digest_bytes, final_hash, initial_hash_256, sha256}
-use Rattle.kg_entities.specs.Ids.{printed}
-use Rattle.kg_entities.specs.StoredPassword.{stored_password}
-use Rattle.kg_entities.specs.Words.{is_hash}
+use Rattle.kg_row_types.specs.Ids.{printed}
+use Rattle.kg_row_types.specs.StoredPassword.{stored_password}
+use Rattle.kg_row_types.specs.Words.{is_hash}
 
 -- ---- bytes
 

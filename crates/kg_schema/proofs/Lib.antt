@@ -1,16 +1,10 @@
-mod AcceptedLemmas
-mod DistinctTexts
-mod InsideLemmas
-mod ItemLemmas
 mod KeptHosts
 mod KeptIds
 mod KeptPasswords
-mod PatternLemmas
 mod ReadHeaders
 mod ReadNumbers
 mod ReadTexts
 mod ReadUrls
-mod TextLemmas
 mod ValidConfigs
 mod ValidConsumers
 mod ValidFinished
@@ -18,4 +12,3 @@ mod ValidParts
 mod ValidPlugins
 mod ValidRoutes
 mod ValidServices
-pub mod RuleLemmas

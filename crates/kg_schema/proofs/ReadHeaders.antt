@@ -21,18 +21,18 @@ use Rattle.std.specs.declared.cmp.Ordering.TheVariants.{Less, Equal, Greater}
 use Rattle.serde_json.specs.Data.{Data, null, boolean, number, string, array, object, no_items, item, Members, no_members, member}
 use Rattle.serde_json.specs.Find.{as_object, as_str}
 use Rattle.kg_text.specs.Names.{is_token}
-use Rattle.kg_entities.specs.ValidRows.{IsValidHeaderTest}
-use Rattle.kg_entities.specs.Words.{is_free_text, is_list_of}
-use Rattle.kg_entities.specs.Words.{is_set as is_some_set}
-use Rattle.kg_entities.specs.declared.route.HeaderTest.{HeaderTest}
+use Rattle.kg_row_types.specs.ValidRows.{IsValidHeaderTest}
+use Rattle.kg_row_types.specs.Words.{is_free_text, is_list_of}
+use Rattle.kg_row_types.specs.Words.{is_set as is_some_set}
+use Rattle.kg_row_types.specs.declared.route.HeaderTest.{HeaderTest}
 use Rattle.kg_schema.proofs.ReadTexts.{list_ok, takes_free_text}
-use Rattle.kg_schema.specs.Judging.{each_text, is_header, is_set, list_rule, texts_of, typed}
-use Rattle.kg_schema.specs.Rules.{sooner}
-use Rattle.kg_schema.specs.Settings.{test_of, tests_at, tests_in, value_at, with_test}
-use Rattle.kg_schema.specs.declared.rule.Rule.{Rule}
-use Rattle.kg_schema.specs.declared.rule.Rule.TheVariants.{Syntax}
-use Rattle.kg_schema.specs.declared.shape.Shape.TheVariants as shape
-use Rattle.kg_schema.specs.declared.word.Word.TheVariants as word
+use Rattle.kg_field_tables.specs.Judging.{each_text, is_header, is_set, list_rule, texts_of, typed}
+use Rattle.kg_field_rules.specs.Rules.{sooner}
+use Rattle.kg_bodies.specs.Settings.{test_of, tests_at, tests_in, value_at, with_test}
+use Rattle.kg_field_rules.specs.declared.rule.Rule.{Rule}
+use Rattle.kg_field_rules.specs.declared.rule.Rule.TheVariants.{Syntax}
+use Rattle.kg_field_tables.specs.declared.shape.Shape.TheVariants as shape
+use Rattle.kg_field_rules.specs.declared.word.Word.TheVariants as word
 
 -- ---- one header
 

@@ -8,10 +8,10 @@ use Rattle.std.specs.Prelude.{IfSome, int_le, ◌≤ℤ◌}
 use Rattle.serde_json.specs.Data.{Data, Num, unsigned, negative, float}
 use Rattle.serde_json.specs.Find.{as_number, as_u64, as_i64}
 use Rattle.kg_schema.proofs.ReadTexts.{value_ok}
-use Rattle.kg_schema.specs.Judging.{integer_rule, shape_rule, typed, whole_rule}
-use Rattle.kg_schema.specs.Settings.{integer_at, value_at, whole_at}
-use Rattle.kg_schema.specs.declared.rule.Rule.TheVariants.{OutOfRange}
-use Rattle.kg_schema.specs.declared.shape.Shape.TheVariants as shape
+use Rattle.kg_field_tables.specs.Judging.{integer_rule, shape_rule, typed, whole_rule}
+use Rattle.kg_bodies.specs.Settings.{integer_at, value_at, whole_at}
+use Rattle.kg_field_rules.specs.declared.rule.Rule.TheVariants.{OutOfRange}
+use Rattle.kg_field_tables.specs.declared.shape.Shape.TheVariants as shape
 
 -- a test that told nothing was passed
 pub passed : (test : Bool) → (if test then None else Some OutOfRange) ≡ None → test ≡ true

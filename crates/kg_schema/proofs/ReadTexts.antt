@@ -9,17 +9,17 @@ use Rattle.std.specs.Option.{option_map_or}
 use Rattle.std.specs.Prelude.{IfSome, IsTrue}
 use Rattle.serde_json.specs.Data.{Data}
 use Rattle.serde_json.specs.Find.{as_str, get}
-use Rattle.kg_entities.specs.ConfigWords.{is_key_name, is_ipv4_block, is_edit, is_header_edit, is_header_rename}
-use Rattle.kg_entities.specs.Words.{are_distinct, has_length, is_free_text, is_host, is_list_of, is_method, is_name, is_normal_path, is_route_path, is_text_within, is_username}
-use Rattle.kg_schema.specs.Judging.{is_set, judged, list_rule, shape_rule, texts_of, typed}
-use Rattle.kg_schema.specs.Settings.{text_at, texts_at, value_at}
-use Rattle.kg_schema.specs.TextRules.{has_form, is_longer, kept, longest, rule_of_empty, text_rule}
-use Rattle.kg_schema.specs.declared.rule.Rule.{Rule}
-use Rattle.kg_schema.specs.declared.rule.Rule.TheVariants.{Empty, OutOfRange, Syntax, Repeated}
-use Rattle.kg_schema.specs.declared.shape.Shape.{Shape}
-use Rattle.kg_schema.specs.declared.shape.Shape.TheVariants as shape
-use Rattle.kg_schema.specs.declared.word.Word.{Word}
-use Rattle.kg_schema.specs.declared.word.Word.TheVariants as word
+use Rattle.kg_row_types.specs.ConfigWords.{is_key_name, is_ipv4_block, is_edit, is_header_edit, is_header_rename}
+use Rattle.kg_row_types.specs.Words.{are_distinct, has_length, is_free_text, is_host, is_list_of, is_method, is_name, is_normal_path, is_route_path, is_text_within, is_username}
+use Rattle.kg_field_tables.specs.Judging.{is_set, judged, list_rule, shape_rule, texts_of, typed}
+use Rattle.kg_bodies.specs.Settings.{text_at, texts_at, value_at}
+use Rattle.kg_field_rules.specs.TextRules.{has_form, is_longer, kept, longest, rule_of_empty, text_rule}
+use Rattle.kg_field_rules.specs.declared.rule.Rule.{Rule}
+use Rattle.kg_field_rules.specs.declared.rule.Rule.TheVariants.{Empty, OutOfRange, Syntax, Repeated}
+use Rattle.kg_field_tables.specs.declared.shape.Shape.{Shape}
+use Rattle.kg_field_tables.specs.declared.shape.Shape.TheVariants as shape
+use Rattle.kg_field_rules.specs.declared.word.Word.{Word}
+use Rattle.kg_field_rules.specs.declared.word.Word.TheVariants as word
 
 -- ---- values
 

@@ -7,13 +7,13 @@ use Rattle.std.specs.List.{before_first, list_all}
 use Rattle.std.specs.Prelude.{IfSome, IsTrue}
 use Rattle.std.specs.Str.Parse.{digits_value, digits_value_after}
 use Rattle.kg_text.specs.Paths.{slash}
-use Rattle.kg_entities.specs.ConfigWords.{colon}
-use Rattle.kg_entities.specs.Words.{is_host, is_normal_path}
+use Rattle.kg_row_types.specs.ConfigWords.{colon}
+use Rattle.kg_row_types.specs.Words.{is_host, is_normal_path}
 use Rattle.serde_json.specs.Data.{Data}
 use Rattle.serde_json.specs.Find.{as_str, get}
-use Rattle.kg_schema.specs.Settings.{url_at}
-use Rattle.kg_schema.specs.Urls.{after_scheme, from_first, host_of, is_numeral, only_if, port_number, port_of, url_of, url_path_of}
-use Rattle.kg_schema.specs.declared.url.Url.{Url}
+use Rattle.kg_bodies.specs.Settings.{url_at}
+use Rattle.kg_field_rules.specs.Urls.{after_scheme, from_first, host_of, is_numeral, only_if, port_number, port_of, url_of, url_path_of}
+use Rattle.kg_field_rules.specs.declared.url.Url.{Url}
 
 -- an address that a service can have
 pub record IsAddress (url : Url) : Type 0 where

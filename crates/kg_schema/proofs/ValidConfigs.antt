@@ -5,34 +5,34 @@ use Rattle.std.proofs.lemmas.Bool.Decides.{nat_tests}
 use Rattle.std.specs.Option.{option_or}
 use Rattle.std.specs.Prelude.{IfSome, IsTrue}
 use Rattle.serde_json.specs.Data.{Data}
-use Rattle.kg_entities.specs.ConfigWords.{is_edit, is_header_edit, is_header_rename, is_ipv4_block, is_key_name}
-use Rattle.kg_entities.specs.ValidRows.{IsAnonymous, IsLimit, IsValidAclConfig, IsValidBasicAuth, IsValidConfig, IsValidCors, IsValidIpRestriction, IsValidKeyAuth, IsValidRateLimiting, IsValidRequestTransformer, IsValidResponseTransformer, IsValidSizeLimit, IsValidTermination, are_edits}
-use Rattle.kg_entities.specs.Words.{is_free_text, is_list_of, is_method, is_printed_if_id, is_text_within}
-use Rattle.kg_entities.specs.declared.config.Acl.{Acl}
-use Rattle.kg_entities.specs.declared.config.BasicAuth.{BasicAuth}
-use Rattle.kg_entities.specs.declared.config.Config.{Config}
-use Rattle.kg_entities.specs.declared.config.Config.TheVariants as config_of
-use Rattle.kg_entities.specs.declared.config.Cors.{Cors}
-use Rattle.kg_entities.specs.declared.config.Edits.{Edits}
-use Rattle.kg_entities.specs.declared.config.IpRestriction.{IpRestriction}
-use Rattle.kg_entities.specs.declared.config.KeyAuth.{KeyAuth}
-use Rattle.kg_entities.specs.declared.config.RateLimiting.{RateLimiting}
-use Rattle.kg_entities.specs.declared.config.RequestTransformer.{RequestTransformer}
-use Rattle.kg_entities.specs.declared.config.ResponseTransformer.{ResponseTransformer}
-use Rattle.kg_entities.specs.declared.config.SizeLimit.{SizeLimit}
-use Rattle.kg_entities.specs.declared.config.Termination.{Termination}
-use Rattle.kg_entities.specs.declared.plugin.PluginName.{PluginName}
-use Rattle.kg_entities.specs.declared.plugin.PluginName.TheVariants as plugin
+use Rattle.kg_row_types.specs.ConfigWords.{is_edit, is_header_edit, is_header_rename, is_ipv4_block, is_key_name}
+use Rattle.kg_row_types.specs.ValidRows.{IsAnonymous, IsLimit, IsValidAclConfig, IsValidBasicAuth, IsValidConfig, IsValidCors, IsValidIpRestriction, IsValidKeyAuth, IsValidRateLimiting, IsValidRequestTransformer, IsValidResponseTransformer, IsValidSizeLimit, IsValidTermination, are_edits}
+use Rattle.kg_row_types.specs.Words.{is_free_text, is_list_of, is_method, is_printed_if_id, is_text_within}
+use Rattle.kg_row_types.specs.declared.config.Acl.{Acl}
+use Rattle.kg_row_types.specs.declared.config.BasicAuth.{BasicAuth}
+use Rattle.kg_row_types.specs.declared.config.Config.{Config}
+use Rattle.kg_row_types.specs.declared.config.Config.TheVariants as config_of
+use Rattle.kg_row_types.specs.declared.config.Cors.{Cors}
+use Rattle.kg_row_types.specs.declared.config.Edits.{Edits}
+use Rattle.kg_row_types.specs.declared.config.IpRestriction.{IpRestriction}
+use Rattle.kg_row_types.specs.declared.config.KeyAuth.{KeyAuth}
+use Rattle.kg_row_types.specs.declared.config.RateLimiting.{RateLimiting}
+use Rattle.kg_row_types.specs.declared.config.RequestTransformer.{RequestTransformer}
+use Rattle.kg_row_types.specs.declared.config.ResponseTransformer.{ResponseTransformer}
+use Rattle.kg_row_types.specs.declared.config.SizeLimit.{SizeLimit}
+use Rattle.kg_row_types.specs.declared.config.Termination.{Termination}
+use Rattle.kg_row_types.specs.declared.plugin.PluginName.{PluginName}
+use Rattle.kg_row_types.specs.declared.plugin.PluginName.TheVariants as plugin
 use Rattle.kg_schema.proofs.KeptIds.{takes_anonymous}
 use Rattle.kg_schema.proofs.ReadNumbers.{whole_ok}
 use Rattle.kg_schema.proofs.ReadTexts.{Takes, takes_block, takes_edit, takes_free_text, takes_header_edit, takes_header_rename, takes_key_name, takes_long_text, takes_method, text_ok, texts_ok}
 use Rattle.kg_schema.proofs.ValidParts.{list_over_ok, neither, not_broken, or_ok, unwrapped_ok}
 use Rattle.kg_schema.specs.Between.{config_faults, fault_if, groups_faults, has_both, has_neither, ip_restriction_faults, rate_limiting_faults, termination_faults}
-use Rattle.kg_schema.specs.FinishedConfigs.{basic_auth_over, config_over, cors_over, default_config, edits_over, groups_over, ip_restriction_over, key_auth_over, limit_at, rate_limiting_over, request_transformer_over, response_transformer_over, size_limit_over, termination_over}
-use Rattle.kg_schema.specs.Settings.{inside, text_at, texts_at, whole_at}
-use Rattle.kg_schema.specs.declared.rule.Rule.TheVariants.{Exclusive, Required}
-use Rattle.kg_schema.specs.declared.word.Word.{Word}
-use Rattle.kg_schema.specs.declared.word.Word.TheVariants as word
+use Rattle.kg_row_making.specs.FinishedConfigs.{basic_auth_over, config_over, cors_over, default_config, edits_over, groups_over, ip_restriction_over, key_auth_over, limit_at, rate_limiting_over, request_transformer_over, response_transformer_over, size_limit_over, termination_over}
+use Rattle.kg_bodies.specs.Settings.{inside, text_at, texts_at, whole_at}
+use Rattle.kg_field_rules.specs.declared.rule.Rule.TheVariants.{Exclusive, Required}
+use Rattle.kg_field_rules.specs.declared.word.Word.{Word}
+use Rattle.kg_field_rules.specs.declared.word.Word.TheVariants as word
 
 abbrev IsListOf : (List ℕ → Bool) → List (List ℕ) → Type 0
 IsListOf test texts = IsTrue (is_list_of test texts)

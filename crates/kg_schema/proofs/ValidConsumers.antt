@@ -3,24 +3,24 @@ use Rattle.std.proofs.Common.{◌≡◌, inl, inr, ℕ, ◌==◌, Bool, true, fa
 use Rattle.std.specs.Option.{option_map_or}
 use Rattle.std.specs.Prelude.{IfSome, IsTrue}
 use Rattle.serde_json.specs.Data.{Data}
-use Rattle.kg_entities.specs.StoredPassword.{stored_password}
-use Rattle.kg_entities.specs.ValidRows.{IsValidAcl, IsValidBasicCred, IsValidConsumer, IsValidKeyCred}
-use Rattle.kg_entities.specs.Words.{is_free_text, is_hash, is_username}
-use Rattle.kg_entities.specs.declared.consumer.Consumer.{Consumer}
-use Rattle.kg_entities.specs.declared.entity.Entity.TheVariants as row
-use Rattle.kg_entities.specs.declared.entity.Kind.TheVariants as kind
+use Rattle.kg_row_types.specs.StoredPassword.{stored_password}
+use Rattle.kg_row_types.specs.ValidRows.{IsValidAcl, IsValidBasicCred, IsValidConsumer, IsValidKeyCred}
+use Rattle.kg_row_types.specs.Words.{is_free_text, is_hash, is_username}
+use Rattle.kg_row_types.specs.declared.consumer.Consumer.{Consumer}
+use Rattle.kg_row_types.specs.declared.entity.Entity.TheVariants as row
+use Rattle.kg_row_types.specs.declared.entity.Kind.TheVariants as kind
 use Rattle.kg_schema.proofs.KeptPasswords.{stored_password_ok}
 use Rattle.kg_schema.proofs.ReadTexts.{takes_accepted, takes_free_text, takes_username, text_ok}
 use Rattle.kg_schema.proofs.ValidParts.{OrEmpty, filled, neither, not_broken, or_ok, unwrapped_ok}
-use Rattle.kg_schema.specs.Bases.{BaseValue, New, Again, Word, Old, acl_of, basic_of, key_of, old_as, stamps_of}
+use Rattle.kg_row_making.specs.Bases.{BaseValue, New, Again, Word, Old, acl_of, basic_of, key_of, old_as, stamps_of}
 use Rattle.kg_schema.specs.Between.{acl_faults, basic_faults, consumer_faults, fault_if, is_missing, key_faults}
 use Rattle.kg_schema.specs.Finished.{acl_before, acl_over, basic_before, basic_over, consumer_before, consumer_over, key_before, key_over}
-use Rattle.kg_schema.specs.Settings.{text_at}
+use Rattle.kg_bodies.specs.Settings.{text_at}
 use Rattle.kg_schema.specs.ValidBases.{IsValidBase}
-use Rattle.kg_schema.specs.declared.base.Links.{Links}
-use Rattle.kg_schema.specs.declared.base.Stamps.{Stamps}
-use Rattle.kg_schema.specs.declared.rule.Rule.TheVariants.{Required}
-use Rattle.kg_schema.specs.declared.word.Word.TheVariants as word
+use Rattle.kg_row_making.specs.declared.base.Links.{Links}
+use Rattle.kg_row_making.specs.declared.base.Stamps.{Stamps}
+use Rattle.kg_field_rules.specs.declared.rule.Rule.TheVariants.{Required}
+use Rattle.kg_field_rules.specs.declared.word.Word.TheVariants as word
 
 abbrev IsFree : List ℕ → Type 0
 IsFree text = IsTrue (is_free_text text)

@@ -1,22 +1,22 @@
 -- A finished row is valid, where its base is.
 use Rattle.std.proofs.Common.{◌≡◌, Bool, true, false, List, [], ◌∷◌, ◌++◌, Option, codes, if◌then◌else◌}
 use Rattle.serde_json.specs.Data.{Data}
-use Rattle.kg_entities.specs.ValidRows.{IsValidRow}
-use Rattle.kg_entities.specs.declared.entity.Kind.{Kind}
-use Rattle.kg_entities.specs.declared.entity.Kind.TheVariants as kind
+use Rattle.kg_row_types.specs.ValidRows.{IsValidRow}
+use Rattle.kg_row_types.specs.declared.entity.Kind.{Kind}
+use Rattle.kg_row_types.specs.declared.entity.Kind.TheVariants as kind
 use Rattle.kg_schema.proofs.ValidConsumers.{acl_ok, basic_ok, consumer_ok, key_ok}
 use Rattle.kg_schema.proofs.ValidParts.{neither}
 use Rattle.kg_schema.proofs.ValidPlugins.{plugin_ok}
 use Rattle.kg_schema.proofs.ValidRoutes.{route_ok}
 use Rattle.kg_schema.proofs.ValidServices.{service_ok}
-use Rattle.kg_schema.specs.Bases.{BaseValue}
+use Rattle.kg_row_making.specs.Bases.{BaseValue}
 use Rattle.kg_schema.specs.Between.{faults_between, id_faults, is_renamed, row_faults, strange_faults, word_faults}
 use Rattle.kg_schema.specs.Finished.{row_over}
-use Rattle.kg_schema.specs.Rules.{Fault}
+use Rattle.kg_field_rules.specs.Rules.{Fault}
 use Rattle.kg_schema.specs.ValidBases.{IsValidBase}
-use Rattle.kg_schema.specs.declared.base.Links.{Links}
-use Rattle.kg_schema.specs.declared.base.ParentField.{ParentField}
-use Rattle.kg_schema.specs.declared.rule.Rule.TheVariants.{Fixed}
+use Rattle.kg_row_making.specs.declared.base.Links.{Links}
+use Rattle.kg_row_making.specs.declared.base.ParentField.{ParentField}
+use Rattle.kg_field_rules.specs.declared.rule.Rule.TheVariants.{Fixed}
 
 -- nothing is told, so the plugin keeps its name
 not_renamed : (renamed : Bool) (faults : List Fault) → (if renamed then (codes "name", Fixed) ∷ [] else faults) ≡ [] → faults ≡ []

@@ -3,9 +3,9 @@ use Rattle.std.proofs.Common.{◌≡◌, ◌⊎◌, inl, inr, ℕ, ◌==◌, if�
 use Rattle.std.specs.Option.{option_or}
 use Rattle.std.specs.Prelude.{IfSome}
 use Rattle.kg_schema.specs.Between.{fault_if}
-use Rattle.kg_schema.specs.FinishedConfigs.{list_over}
-use Rattle.kg_schema.specs.Rules.{Fault}
-use Rattle.kg_schema.specs.declared.rule.Rule.{Rule}
+use Rattle.kg_row_making.specs.FinishedConfigs.{list_over}
+use Rattle.kg_field_rules.specs.Rules.{Fault}
+use Rattle.kg_field_rules.specs.declared.rule.Rule.{Rule}
 
 pub or_ok : {A : Type 0} (P : A → Type 0) (set before : Option A) → IfSome set P → IfSome before P → IfSome (option_or set before) P
 or_ok P None before ok old = old

@@ -1,23 +1,23 @@
 -- A finished plugin is valid.
 use Rattle.std.proofs.Common.{◌≡◌, Bool, true, false, not, ◌&&◌, ◌||◌, List, [], ◌∷◌, is_none, is_some, unwrap_or, codes, if◌then◌else◌, refl}
 use Rattle.serde_json.specs.Data.{Data}
-use Rattle.kg_entities.specs.ValidRows.{IsValidPlugin, is_for_no_consumer}
-use Rattle.kg_entities.specs.declared.entity.Entity.TheVariants as row
-use Rattle.kg_entities.specs.declared.entity.Kind.TheVariants as kind
-use Rattle.kg_entities.specs.declared.plugin.PluginName.TheVariants as plugin
-use Rattle.kg_entities.specs.declared.plugin.PluginRow.{PluginRow}
+use Rattle.kg_row_types.specs.ValidRows.{IsValidPlugin, is_for_no_consumer}
+use Rattle.kg_row_types.specs.declared.entity.Entity.TheVariants as row
+use Rattle.kg_row_types.specs.declared.entity.Kind.TheVariants as kind
+use Rattle.kg_row_types.specs.declared.plugin.PluginName.TheVariants as plugin
+use Rattle.kg_row_types.specs.declared.plugin.PluginRow.{PluginRow}
 use Rattle.kg_schema.proofs.ValidConfigs.{IsConfigBefore, config_ok, default_before, valid_before}
 use Rattle.kg_schema.proofs.ValidParts.{neither, not_broken}
-use Rattle.kg_schema.specs.Bases.{BaseValue, New, Again, Word, Old, stamps_of}
+use Rattle.kg_row_making.specs.Bases.{BaseValue, New, Again, Word, Old, stamps_of}
 use Rattle.kg_schema.specs.Between.{config_faults, fault_if, known_plugin_faults, old_plugin, plugin_faults, waiting_faults}
-use Rattle.kg_schema.specs.BrokenRules.{named_plugin}
+use Rattle.kg_field_tables.specs.BrokenRules.{named_plugin}
 use Rattle.kg_schema.specs.Finished.{plugin_before, plugin_over}
-use Rattle.kg_schema.specs.Rules.{Fault}
-use Rattle.kg_schema.specs.Settings.{inside}
+use Rattle.kg_field_rules.specs.Rules.{Fault}
+use Rattle.kg_bodies.specs.Settings.{inside}
 use Rattle.kg_schema.specs.ValidBases.{IsValidBase}
-use Rattle.kg_schema.specs.declared.base.Links.{Links}
-use Rattle.kg_schema.specs.declared.base.Stamps.{Stamps}
-use Rattle.kg_schema.specs.declared.rule.Rule.TheVariants.{Fixed, Required}
+use Rattle.kg_row_making.specs.declared.base.Links.{Links}
+use Rattle.kg_row_making.specs.declared.base.Stamps.{Stamps}
+use Rattle.kg_field_rules.specs.declared.rule.Rule.TheVariants.{Fixed, Required}
 
 before_ok : (base : BaseValue) (stamps : Stamps) (body : Data) → IsValidBase kind.Plugin base → IsConfigBefore (plugin_before base stamps body).config
 before_ok (New id now) stamps body ok = default_before (unwrap_or (named_plugin body) plugin.Cors)

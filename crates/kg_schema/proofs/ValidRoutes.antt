@@ -5,25 +5,25 @@ use Rattle.std.proofs.lemmas.List.Elements.{All-nil}
 use Rattle.std.specs.List.Sorted.{IsStrictlySortedBy}
 use Rattle.std.specs.Prelude.{IfSome, IsTrue, ◌≤ℤ◌}
 use Rattle.serde_json.specs.Data.{Data}
-use Rattle.kg_entities.specs.ValidRows.{IsValidHeaderTest, IsValidRoute}
-use Rattle.kg_entities.specs.Words.{is_kept_route_host, is_list_of, is_method, is_name, is_route_path}
-use Rattle.kg_entities.specs.declared.entity.Entity.TheVariants as row
-use Rattle.kg_entities.specs.declared.entity.Kind.TheVariants as kind
-use Rattle.kg_entities.specs.declared.route.Route.{Route}
+use Rattle.kg_row_types.specs.ValidRows.{IsValidHeaderTest, IsValidRoute}
+use Rattle.kg_row_types.specs.Words.{is_kept_route_host, is_list_of, is_method, is_name, is_route_path}
+use Rattle.kg_row_types.specs.declared.entity.Entity.TheVariants as row
+use Rattle.kg_row_types.specs.declared.entity.Kind.TheVariants as kind
+use Rattle.kg_row_types.specs.declared.route.Route.{Route}
 use Rattle.kg_schema.proofs.KeptHosts.{takes_route_host}
 use Rattle.kg_schema.proofs.ReadHeaders.{AreOrdered, tests_ok}
 use Rattle.kg_schema.proofs.ReadNumbers.{integer_ok}
 use Rattle.kg_schema.proofs.ReadTexts.{takes_accepted, takes_method, takes_name, takes_route_path, text_ok, texts_ok}
 use Rattle.kg_schema.proofs.ValidParts.{list_over_ok, neither, not_broken, or_ok, unwrapped_ok}
-use Rattle.kg_schema.specs.Bases.{BaseValue, New, Again, Word, Old, old_as, route_of, stamps_of}
+use Rattle.kg_row_making.specs.Bases.{BaseValue, New, Again, Word, Old, old_as, route_of, stamps_of}
 use Rattle.kg_schema.specs.Between.{fault_if, fits_nothing, is_missing, route_faults}
 use Rattle.kg_schema.specs.Finished.{route_before, route_over}
-use Rattle.kg_schema.specs.Settings.{integer_at, text_at, texts_at, tests_at}
+use Rattle.kg_bodies.specs.Settings.{integer_at, text_at, texts_at, tests_at}
 use Rattle.kg_schema.specs.ValidBases.{IsValidBase}
-use Rattle.kg_schema.specs.declared.base.Links.{Links}
-use Rattle.kg_schema.specs.declared.base.Stamps.{Stamps}
-use Rattle.kg_schema.specs.declared.rule.Rule.TheVariants.{Required}
-use Rattle.kg_schema.specs.declared.word.Word.TheVariants as word
+use Rattle.kg_row_making.specs.declared.base.Links.{Links}
+use Rattle.kg_row_making.specs.declared.base.Stamps.{Stamps}
+use Rattle.kg_field_rules.specs.declared.rule.Rule.TheVariants.{Required}
+use Rattle.kg_field_rules.specs.declared.word.Word.TheVariants as word
 
 abbrev IsName : List ℕ → Type 0
 IsName text = IsTrue (is_name text)

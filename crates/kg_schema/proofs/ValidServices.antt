@@ -2,24 +2,24 @@
 use Rattle.std.proofs.Common.{◌≡◌, inl, inr, ℕ, ◌≤◌, ◌==◌, List, [], length, Option, Some, None, codes, refl, arith}
 use Rattle.std.specs.Prelude.{IfSome, IsTrue}
 use Rattle.serde_json.specs.Data.{Data}
-use Rattle.kg_entities.specs.ValidRows.{IsValidService}
-use Rattle.kg_entities.specs.Words.{is_host, is_name, is_normal_path}
-use Rattle.kg_entities.specs.declared.entity.Entity.TheVariants as row
-use Rattle.kg_entities.specs.declared.entity.Kind.TheVariants as kind
-use Rattle.kg_entities.specs.declared.service.Service.{Service}
+use Rattle.kg_row_types.specs.ValidRows.{IsValidService}
+use Rattle.kg_row_types.specs.Words.{is_host, is_name, is_normal_path}
+use Rattle.kg_row_types.specs.declared.entity.Entity.TheVariants as row
+use Rattle.kg_row_types.specs.declared.entity.Kind.TheVariants as kind
+use Rattle.kg_row_types.specs.declared.service.Service.{Service}
 use Rattle.kg_schema.proofs.ReadNumbers.{whole_ok}
 use Rattle.kg_schema.proofs.ReadTexts.{takes_accepted, takes_host, takes_name, takes_path, text_ok}
 use Rattle.kg_schema.proofs.ReadUrls.{IsAddress, url_ok}
 use Rattle.kg_schema.proofs.ValidParts.{OrEmpty, filled, neither, not_broken, or_ok, unwrapped_ok}
-use Rattle.kg_schema.specs.Bases.{BaseValue, New, Again, Word, Old, stamps_of}
+use Rattle.kg_row_making.specs.Bases.{BaseValue, New, Again, Word, Old, stamps_of}
 use Rattle.kg_schema.specs.Between.{doubles_url, fault_if, service_faults}
 use Rattle.kg_schema.specs.Finished.{address_over, service_before, service_over}
-use Rattle.kg_schema.specs.Settings.{text_at, url_at, whole_at}
+use Rattle.kg_bodies.specs.Settings.{text_at, url_at, whole_at}
 use Rattle.kg_schema.specs.ValidBases.{IsValidBase}
-use Rattle.kg_schema.specs.declared.base.Stamps.{Stamps}
-use Rattle.kg_schema.specs.declared.rule.Rule.TheVariants.{Exclusive, Required}
-use Rattle.kg_schema.specs.declared.url.Url.{Url}
-use Rattle.kg_schema.specs.declared.word.Word.TheVariants as word
+use Rattle.kg_row_making.specs.declared.base.Stamps.{Stamps}
+use Rattle.kg_field_rules.specs.declared.rule.Rule.TheVariants.{Exclusive, Required}
+use Rattle.kg_field_rules.specs.declared.url.Url.{Url}
+use Rattle.kg_field_rules.specs.declared.word.Word.TheVariants as word
 
 abbrev IsName : List ℕ → Type 0
 IsName text = IsTrue (is_name text)

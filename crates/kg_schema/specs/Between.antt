@@ -5,41 +5,41 @@ use Rattle.std.specs.Option.{option_map_or}
 use Rattle.std.specs.Str.{bytes_eq}
 use Rattle.serde_json.specs.Data.{Data}
 use Rattle.serde_json.specs.Find.{as_object, get}
-use Rattle.kg_entities.specs.PluginNames.{plugin_of, same_plugin}
-use Rattle.kg_entities.specs.declared.config.Acl.{Acl}
-use Rattle.kg_entities.specs.declared.config.Config.{Config}
-use Rattle.kg_entities.specs.declared.config.Config.TheVariants as config_of
-use Rattle.kg_entities.specs.declared.config.IpRestriction.{IpRestriction}
-use Rattle.kg_entities.specs.declared.config.RateLimiting.{RateLimiting}
-use Rattle.kg_entities.specs.declared.config.Termination.{Termination}
-use Rattle.kg_entities.specs.ValidRows.{is_for_no_consumer}
-use Rattle.kg_entities.specs.declared.consumer.AclRow.{AclRow}
-use Rattle.kg_entities.specs.declared.consumer.BasicCred.{BasicCred}
-use Rattle.kg_entities.specs.declared.consumer.Consumer.{Consumer}
-use Rattle.kg_entities.specs.declared.consumer.KeyCred.{KeyCred}
-use Rattle.kg_entities.specs.declared.entity.Entity.{Entity}
-use Rattle.kg_entities.specs.declared.entity.Entity.TheVariants as row
-use Rattle.kg_entities.specs.declared.entity.Kind.{Kind}
-use Rattle.kg_entities.specs.declared.entity.Kind.TheVariants as kind
-use Rattle.kg_entities.specs.declared.plugin.PluginName.{PluginName}
-use Rattle.kg_entities.specs.declared.plugin.PluginRow.{PluginRow}
-use Rattle.kg_entities.specs.declared.route.Route.{Route}
-use Rattle.kg_entities.specs.declared.service.Service.{Service}
-use Rattle.kg_schema.specs.Bases.{BaseValue, fixed_id, given_word, old_as, route_of, key_of, basic_of, acl_of, plugin_row_of}
-use Rattle.kg_schema.specs.BrokenRules.{faults_in, named_plugin}
+use Rattle.kg_row_types.specs.PluginNames.{plugin_of, same_plugin}
+use Rattle.kg_row_types.specs.declared.config.Acl.{Acl}
+use Rattle.kg_row_types.specs.declared.config.Config.{Config}
+use Rattle.kg_row_types.specs.declared.config.Config.TheVariants as config_of
+use Rattle.kg_row_types.specs.declared.config.IpRestriction.{IpRestriction}
+use Rattle.kg_row_types.specs.declared.config.RateLimiting.{RateLimiting}
+use Rattle.kg_row_types.specs.declared.config.Termination.{Termination}
+use Rattle.kg_row_types.specs.ValidRows.{is_for_no_consumer}
+use Rattle.kg_row_types.specs.declared.consumer.AclRow.{AclRow}
+use Rattle.kg_row_types.specs.declared.consumer.BasicCred.{BasicCred}
+use Rattle.kg_row_types.specs.declared.consumer.Consumer.{Consumer}
+use Rattle.kg_row_types.specs.declared.consumer.KeyCred.{KeyCred}
+use Rattle.kg_row_types.specs.declared.entity.Entity.{Entity}
+use Rattle.kg_row_types.specs.declared.entity.Entity.TheVariants as row
+use Rattle.kg_row_types.specs.declared.entity.Kind.{Kind}
+use Rattle.kg_row_types.specs.declared.entity.Kind.TheVariants as kind
+use Rattle.kg_row_types.specs.declared.plugin.PluginName.{PluginName}
+use Rattle.kg_row_types.specs.declared.plugin.PluginRow.{PluginRow}
+use Rattle.kg_row_types.specs.declared.route.Route.{Route}
+use Rattle.kg_row_types.specs.declared.service.Service.{Service}
+use Rattle.kg_row_making.specs.Bases.{BaseValue, fixed_id, given_word, old_as, route_of, key_of, basic_of, acl_of, plugin_row_of}
+use Rattle.kg_field_tables.specs.BrokenRules.{faults_in, named_plugin}
 use Rattle.kg_schema.specs.Finished.{row_over}
-use Rattle.kg_schema.specs.Judging.{is_set}
-use Rattle.kg_schema.specs.Rules.{Fault}
-use Rattle.kg_schema.specs.Settings.{text_at, id_at, inside}
-use Rattle.kg_schema.specs.TextRules.{text_rule}
-use Rattle.kg_schema.specs.declared.base.Links.{Links}
-use Rattle.kg_schema.specs.declared.base.ParentField.{ParentField}
-use Rattle.kg_schema.specs.declared.base.ParentField.TheVariants as parent
-use Rattle.kg_schema.specs.declared.rule.Rule.{Rule}
-use Rattle.kg_schema.specs.declared.rule.Rule.TheVariants.{Required, Fixed, Exclusive}
-use Rattle.kg_schema.specs.declared.table.Table.TheVariants as table
-use Rattle.kg_schema.specs.declared.word.Word.{Word}
-use Rattle.kg_schema.specs.declared.word.Word.TheVariants as word
+use Rattle.kg_field_tables.specs.Judging.{is_set}
+use Rattle.kg_field_rules.specs.Rules.{Fault}
+use Rattle.kg_bodies.specs.Settings.{text_at, id_at, inside}
+use Rattle.kg_field_rules.specs.TextRules.{text_rule}
+use Rattle.kg_row_making.specs.declared.base.Links.{Links}
+use Rattle.kg_row_making.specs.declared.base.ParentField.{ParentField}
+use Rattle.kg_row_making.specs.declared.base.ParentField.TheVariants as parent
+use Rattle.kg_field_rules.specs.declared.rule.Rule.{Rule}
+use Rattle.kg_field_rules.specs.declared.rule.Rule.TheVariants.{Required, Fixed, Exclusive}
+use Rattle.kg_field_tables.specs.declared.table.Table.TheVariants as table
+use Rattle.kg_field_rules.specs.declared.word.Word.{Word}
+use Rattle.kg_field_rules.specs.declared.word.Word.TheVariants as word
 
 -- the rule at this field, if it is broken
 abbrev pub fault_if : Bool → List ℕ → Rule → List Fault

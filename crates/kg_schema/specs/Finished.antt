@@ -5,29 +5,29 @@
 use Rattle.std.specs.Prelude.{ℕ, pos, neg_ℤ, true, false, List, [], Option, Some, None, unwrap_or, option_map, codes}
 use Rattle.std.specs.Option.{option_or, option_map_or}
 use Rattle.serde_json.specs.Data.{Data}
-use Rattle.kg_entities.specs.StoredPassword.{stored_password}
-use Rattle.kg_entities.specs.declared.config.Config.{Config}
-use Rattle.kg_entities.specs.declared.consumer.AclRow.{AclRow}
-use Rattle.kg_entities.specs.declared.consumer.BasicCred.{BasicCred}
-use Rattle.kg_entities.specs.declared.consumer.Consumer.{Consumer}
-use Rattle.kg_entities.specs.declared.consumer.KeyCred.{KeyCred}
-use Rattle.kg_entities.specs.declared.entity.Entity.{Entity}
-use Rattle.kg_entities.specs.declared.entity.Entity.TheVariants as row
-use Rattle.kg_entities.specs.declared.entity.Kind.{Kind}
-use Rattle.kg_entities.specs.declared.entity.Kind.TheVariants as kind
-use Rattle.kg_entities.specs.declared.plugin.PluginName.TheVariants as plugin
-use Rattle.kg_entities.specs.declared.plugin.PluginRow.{PluginRow}
-use Rattle.kg_entities.specs.declared.plugin.Scope.{Scope}
-use Rattle.kg_entities.specs.declared.route.Route.{Route}
-use Rattle.kg_entities.specs.declared.service.Service.{Service}
-use Rattle.kg_schema.specs.Bases.{BaseValue, given_word, old_as, service_of, route_of, consumer_of, key_of, basic_of, acl_of, plugin_row_of, stamps_of}
-use Rattle.kg_schema.specs.BrokenRules.{named_plugin}
-use Rattle.kg_schema.specs.FinishedConfigs.{list_over, default_config, config_over}
-use Rattle.kg_schema.specs.Settings.{text_at, texts_at, whole_at, integer_at, flag_at, url_at, https_at, tests_at, inside}
-use Rattle.kg_schema.specs.declared.base.Links.{Links}
-use Rattle.kg_schema.specs.declared.base.Stamps.{Stamps}
-use Rattle.kg_schema.specs.declared.url.Url.{Url}
-use Rattle.kg_schema.specs.declared.word.Word.TheVariants as word
+use Rattle.kg_row_types.specs.StoredPassword.{stored_password}
+use Rattle.kg_row_types.specs.declared.config.Config.{Config}
+use Rattle.kg_row_types.specs.declared.consumer.AclRow.{AclRow}
+use Rattle.kg_row_types.specs.declared.consumer.BasicCred.{BasicCred}
+use Rattle.kg_row_types.specs.declared.consumer.Consumer.{Consumer}
+use Rattle.kg_row_types.specs.declared.consumer.KeyCred.{KeyCred}
+use Rattle.kg_row_types.specs.declared.entity.Entity.{Entity}
+use Rattle.kg_row_types.specs.declared.entity.Entity.TheVariants as row
+use Rattle.kg_row_types.specs.declared.entity.Kind.{Kind}
+use Rattle.kg_row_types.specs.declared.entity.Kind.TheVariants as kind
+use Rattle.kg_row_types.specs.declared.plugin.PluginName.TheVariants as plugin
+use Rattle.kg_row_types.specs.declared.plugin.PluginRow.{PluginRow}
+use Rattle.kg_row_types.specs.declared.plugin.Scope.{Scope}
+use Rattle.kg_row_types.specs.declared.route.Route.{Route}
+use Rattle.kg_row_types.specs.declared.service.Service.{Service}
+use Rattle.kg_row_making.specs.Bases.{BaseValue, given_word, old_as, service_of, route_of, consumer_of, key_of, basic_of, acl_of, plugin_row_of, stamps_of}
+use Rattle.kg_field_tables.specs.BrokenRules.{named_plugin}
+use Rattle.kg_row_making.specs.FinishedConfigs.{list_over, default_config, config_over}
+use Rattle.kg_bodies.specs.Settings.{text_at, texts_at, whole_at, integer_at, flag_at, url_at, https_at, tests_at, inside}
+use Rattle.kg_row_making.specs.declared.base.Links.{Links}
+use Rattle.kg_row_making.specs.declared.base.Stamps.{Stamps}
+use Rattle.kg_field_rules.specs.declared.url.Url.{Url}
+use Rattle.kg_field_rules.specs.declared.word.Word.TheVariants as word
 
 -- ---- services
 

@@ -2,13 +2,13 @@
 -- by a word that is given.
 use Rattle.std.specs.Prelude.{◌≡◌, [], Option, IsTrue, ⊤}
 use Rattle.serde_json.specs.Data.{Data}
-use Rattle.kg_entities.specs.ValidRows.{IsValidRow}
-use Rattle.kg_entities.specs.declared.entity.Kind.{Kind}
-use Rattle.kg_schema.specs.Bases.{BaseValue, New, Again, Word, Old}
+use Rattle.kg_row_types.specs.ValidRows.{IsValidRow}
+use Rattle.kg_row_types.specs.declared.entity.Kind.{Kind}
+use Rattle.kg_row_making.specs.Bases.{BaseValue, New, Again, Word, Old}
 use Rattle.kg_schema.specs.Between.{accepts_word, faults_between}
 use Rattle.kg_schema.specs.Finished.{row_over}
-use Rattle.kg_schema.specs.declared.base.Links.{Links}
-use Rattle.kg_schema.specs.declared.base.ParentField.{ParentField}
+use Rattle.kg_row_making.specs.declared.base.Links.{Links}
+use Rattle.kg_row_making.specs.declared.base.ParentField.{ParentField}
 
 abbrev pub IsValidBase : Kind → BaseValue → Type 0
 IsValidBase kind (New id now) = ⊤

@@ -4,30 +4,23 @@
 ghost use Rattle.std.specs.Prelude.{◌≡◌, [], IfOk, IfErr, OnOk, fold, option_map};
 ghost use Rattle.std.specs.Str.{bytes_eq};
 ghost use Rattle.serde_json.specs.View.{view};
-ghost use Rattle.kg_schema.specs.Bases.{base_of, given_word};
+ghost use Rattle.kg_row_making.specs.Bases.{base_of, given_word};
 ghost use Rattle.kg_schema.specs.Between.{accepts_word, differ, faults_between, id_faults, is_renamed, parent_text, row_faults, strange_faults, word_faults, word_field};
 ghost use Rattle.kg_schema.specs.Finished.{row_over};
-ghost use Rattle.kg_schema.specs.Rules.{Tells, tell};
-ghost use Rattle.kg_schema.specs.Settings.{text_at};
+ghost use Rattle.kg_field_rules.specs.Rules.{tell};
+ghost use Rattle.kg_bodies.specs.Violations.{Tells};
+ghost use Rattle.kg_bodies.specs.Settings.{text_at};
 ghost use Rattle.kg_schema.specs.ValidBases.{IsValidBase};
-ghost use Rattle.kg_entities.specs.ValidRows.{IsValidRow};
+ghost use Rattle.kg_row_types.specs.ValidRows.{IsValidRow};
 
-mod config;
 mod consumer;
-mod defaults;
 mod member;
-mod password;
 mod plugin;
 mod route;
 mod service;
-mod set;
 mod tell;
 mod valid;
 
-use crate::base::{Base, Links, ParentField};
-use crate::fault::Faults;
-use crate::fields::named_plugin;
-use crate::form::{Form, FormError};
 use crate::row::consumer::{
     acl_before, acl_over, basic_before, basic_over, consumer_before, consumer_over, key_before,
     key_over, tell_acl, tell_basic, tell_consumer, tell_key,
@@ -37,11 +30,15 @@ use crate::row::route::{route_before, route_over, tell_route};
 use crate::row::service::{service_before, service_over, tell_service};
 use crate::row::tell::tell_if;
 pub use crate::row::valid::finished_rows_are_valid;
-use crate::rule::Rule;
-use crate::settings::{id_at, text_at};
-use crate::text_rule::text_rule;
-use crate::word::Word;
-use kg_entities::{Entity, Kind};
+use kg_bodies::fields::named_plugin;
+use kg_bodies::form::{Form, FormError};
+use kg_bodies::settings::{id_at, text_at};
+use kg_field_rules::fault::Faults;
+use kg_field_rules::rule::Rule;
+use kg_field_rules::text_rule::text_rule;
+use kg_field_rules::word::Word;
+use kg_row_making::base::{Base, Links, ParentField};
+use kg_row_types::entity::{Entity, Kind};
 use kg_text::{NoMemory, Text};
 use serde_json::Value;
 use std::alloc::Global;
@@ -107,7 +104,7 @@ pub fn finish_under(
 }
 
 // The rules between the fields that the finished row breaks.
-#[tactic(auto, using(crate::proofs::RuleLemmas::in_order_none))]
+#[tactic(auto, using(kg_field_rules::proofs::RuleLemmas::in_order_none))]
 fn judge_row(
     alloc: Global,
     form: &Form,

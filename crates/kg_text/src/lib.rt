@@ -29,6 +29,3 @@ pub use crate::pair::Pair;
 pub use crate::path::{into_normal_form, is_normal, is_path, normalise};
 pub use crate::query::{query_pairs, query_text};
 pub use crate::text::Text;
-
-#[cfg(test)]
-mod tests;

@@ -1,11 +1,8 @@
 mod ChecksLemmas
 mod HeldLemmas
 mod JudgeLemmas
+pub mod MessageLemmas
+pub mod NextLemmas
 mod PrintedLemmas
 mod ReaderLemmas
 mod ValueLemmas
-mod WriteLemmas
-pub mod MessageLemmas
-pub mod NextLemmas
-pub mod PhraseLemmas
-pub mod UpstreamLemmas

@@ -26,13 +26,13 @@ use Rattle.kg_message.specs.declared.header.Header.{Header}
 use Rattle.kg_message.specs.declared.request.Request.{Request}
 use Rattle.kg_wire.specs.Checks.{body_len, length_by, length_of, has_host, is_framed, named_count, content_length_value}
 use Rattle.kg_wire.specs.declared.head.Head.{Head}
-use Rattle.kg_wire.specs.FieldLines.{content_length, stated_length, connection, field_line, field_lines, line_end}
+use Rattle.kg_print.specs.FieldLines.{content_length, stated_length, connection, field_line, field_lines, line_end}
 use Rattle.kg_wire.specs.Messages.{most_head, most_body, Message, header_of, head_of, request_with}
 use Rattle.kg_wire.specs.Targets.{is_question, is_query_byte, is_target, target_path, target_query}
-use Rattle.kg_wire.specs.UpstreamText.{forwarded_for, forwarded_value, client_fields, sent_fields, upstream_head}
+use Rattle.kg_print.specs.UpstreamText.{forwarded_for, forwarded_value, client_fields, sent_fields, upstream_head}
 use Rattle.kg_wire.specs.ValidParts.{IsValue, IsField, HasNone, IsAddress, AreParts, IsReadBack}
 use Rattle.kg_wire.proofs.ChecksLemmas.{both}
-use Rattle.kg_wire.proofs.UpstreamLemmas.{joined_values}
+use Rattle.kg_print.proofs.UpstreamLemmas.{joined_values}
 use Rattle.kg_wire.proofs.ValueLemmas.{is_dense, skip_short, ends_of, trimmed_from, skip_none, skip_dense, dense_value, decimal_dense, address_dense, address_some}
 
 -- ---- field lines

@@ -1,9 +1,5 @@
 pub mod Checks
-pub mod Connection
-pub mod FieldLines
 pub mod Messages
 pub mod Reading
-pub mod ReplyText
 pub mod Targets
-pub mod UpstreamText
 pub mod ValidParts

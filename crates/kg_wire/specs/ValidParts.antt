@@ -9,7 +9,7 @@ use Rattle.kg_message.specs.declared.header.Header.{Header}
 use Rattle.kg_message.specs.declared.request.Request.{Request}
 use Rattle.kg_wire.specs.Messages.{most_head, most_body, Message, IsRequest, print_message, request_of}
 use Rattle.kg_wire.specs.Targets.{is_target, target_path, target_query}
-use Rattle.kg_wire.specs.UpstreamText.{sent_fields, upstream_head, upstream_text}
+use Rattle.kg_print.specs.UpstreamText.{sent_fields, upstream_head, upstream_text}
 
 -- a field's value as it is read: no control byte but the tab, and no blank at its ends
 pub record IsValue (value : List ℕ) : Type 0 where

@@ -3,25 +3,17 @@
 #![tactic(auto)]
 
 mod checks;
-mod connection;
 mod head;
 mod held;
 mod judge;
 mod laws;
-mod lines;
 mod reader;
-mod reply;
 mod target;
-mod upstream;
-mod write;
 
-pub use crate::connection::{Keeping, asks_for_end, keeping_of};
 pub use crate::laws::{messages_unique, no_proper_front, printed_is_read};
 pub use crate::reader::{ReadError, Reader};
-pub use crate::reply::render_response;
 pub use crate::target::is_target;
-pub use crate::upstream::render_request;
-pub use crate::write::write_whole;
-
-#[cfg(test)]
-mod tests;
+pub use kg_print::connection::{Keeping, asks_for_end, keeping_of};
+pub use kg_print::reply::render_response;
+pub use kg_print::upstream::render_request;
+pub use kg_print::write::write_whole;

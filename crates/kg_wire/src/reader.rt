@@ -301,6 +301,3 @@ fn fill_message<S: Source>(
     }
     Ok(())
 }
-
-#[cfg(test)]
-mod tests;

@@ -2,21 +2,21 @@
 
 ghost use Rattle.std.specs.Prelude.{◌≡◌, IfOk, OnOk, fold};
 ghost use Rattle.serde_json.specs.View.{view};
-ghost use Rattle.kg_entities.specs.StoredPassword.{stored_password};
-ghost use Rattle.kg_schema.specs.Bases.{base_of};
+ghost use Rattle.kg_row_types.specs.StoredPassword.{stored_password};
+ghost use Rattle.kg_row_making.specs.Bases.{base_of};
 ghost use Rattle.kg_schema.specs.Between.{acl_faults, basic_faults, consumer_faults, key_faults};
 ghost use Rattle.kg_schema.specs.Finished.{acl_before, acl_over, basic_before, basic_over, consumer_before, consumer_over, key_before, key_over};
-ghost use Rattle.kg_schema.specs.Rules.{tell};
+ghost use Rattle.kg_field_rules.specs.Rules.{tell};
 
-use crate::base::{Base, Links, Stamps};
-use crate::fault::Faults;
-use crate::row::password::stored_password;
-use crate::row::set::{set, set_option};
 use crate::row::tell::{is_missing, tell_if};
-use crate::rule::Rule;
-use crate::settings::text_at;
-use crate::word::Word;
-use kg_entities::{AclRow, BasicCred, Consumer, KeyCred};
+use kg_bodies::settings::text_at;
+use kg_field_rules::fault::Faults;
+use kg_field_rules::rule::Rule;
+use kg_field_rules::word::Word;
+use kg_row_making::base::{Base, Links, Stamps};
+use kg_row_making::password::stored_password;
+use kg_row_making::set::{set, set_option};
+use kg_row_types::consumer::{AclRow, BasicCred, Consumer, KeyCred};
 use kg_text::{NoMemory, Text, TryClone};
 use serde_json::Value;
 use std::alloc::Global;

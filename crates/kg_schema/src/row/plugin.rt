@@ -2,27 +2,26 @@
 
 ghost use Rattle.std.specs.Prelude.{◌≡◌, IfOk, OnOk, codes, fold};
 ghost use Rattle.serde_json.specs.View.{view};
-ghost use Rattle.kg_entities.specs.ValidRows.{is_for_no_consumer};
-ghost use Rattle.kg_schema.specs.Bases.{base_of};
+ghost use Rattle.kg_row_types.specs.ValidRows.{is_for_no_consumer};
+ghost use Rattle.kg_row_making.specs.Bases.{base_of};
 ghost use Rattle.kg_schema.specs.Between.{config_faults, groups_faults, has_both, has_neither, ip_restriction_faults, known_plugin_faults, late_faults, old_plugin, plugin_faults, rate_limiting_faults, termination_faults, waiting_faults};
 ghost use Rattle.kg_schema.specs.Finished.{plugin_before, plugin_over, scope_over};
-ghost use Rattle.kg_schema.specs.Rules.{tell};
-ghost use Rattle.kg_schema.specs.Settings.{inside};
+ghost use Rattle.kg_field_rules.specs.Rules.{tell};
+ghost use Rattle.kg_bodies.specs.Settings.{inside};
 
-use crate::base::{Base, Links, Stamps};
-use crate::fault::Faults;
-use crate::fields::{judge_members, named_plugin};
-use crate::row::config::config_over;
-use crate::row::defaults::default_config;
-use crate::row::member::member_or;
-use crate::row::set::{set, set_option};
 use crate::row::tell::tell_if;
-use crate::rule::Rule;
-use crate::settings::flag_at;
-use crate::table::Table;
-use kg_entities::{
-    Acl, Config, IpRestriction, PluginName, PluginRow, RateLimiting, Scope, Termination,
-};
+use kg_bodies::fields::{judge_members, named_plugin};
+use kg_bodies::settings::flag_at;
+use kg_field_rules::fault::Faults;
+use kg_field_rules::rule::Rule;
+use kg_field_tables::table::Table;
+use kg_row_making::base::{Base, Links, Stamps};
+use kg_row_making::config::config_over;
+use kg_row_making::defaults::default_config;
+use kg_row_making::member::member_or;
+use kg_row_making::set::{set, set_option};
+use kg_row_types::config::{Acl, Config, IpRestriction, RateLimiting, Termination};
+use kg_row_types::plugin::{PluginName, PluginRow, Scope};
 use kg_text::{List, NoMemory, Text, TryClone};
 use serde_json::Value;
 use std::alloc::Global;

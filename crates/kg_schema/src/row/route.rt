@@ -2,20 +2,20 @@
 
 ghost use Rattle.std.specs.Prelude.{◌≡◌, IfOk, OnOk, fold};
 ghost use Rattle.serde_json.specs.View.{view};
-ghost use Rattle.kg_schema.specs.Bases.{base_of};
+ghost use Rattle.kg_row_making.specs.Bases.{base_of};
 ghost use Rattle.kg_schema.specs.Between.{fits_nothing, route_faults};
 ghost use Rattle.kg_schema.specs.Finished.{route_before, route_over};
-ghost use Rattle.kg_schema.specs.Rules.{tell};
+ghost use Rattle.kg_field_rules.specs.Rules.{tell};
 
-use crate::base::{Base, Links, Stamps};
-use crate::fault::Faults;
-use crate::header_tests::tests_at;
-use crate::row::set::{narrow_signed, set, set_list, set_option};
 use crate::row::tell::{is_missing, tell_if};
-use crate::rule::Rule;
-use crate::settings::{flag_at, https_at, integer_at, text_at, texts_at};
-use crate::word::Word;
-use kg_entities::Route;
+use kg_bodies::header_tests::tests_at;
+use kg_bodies::settings::{flag_at, https_at, integer_at, text_at, texts_at};
+use kg_field_rules::fault::Faults;
+use kg_field_rules::rule::Rule;
+use kg_field_rules::word::Word;
+use kg_row_making::base::{Base, Links, Stamps};
+use kg_row_making::set::{narrow_signed, set, set_list, set_option};
+use kg_row_types::route::Route;
 use kg_text::{List, NoMemory, TryClone};
 use serde_json::Value;
 use std::alloc::Global;

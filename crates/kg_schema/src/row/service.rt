@@ -2,21 +2,21 @@
 
 ghost use Rattle.std.specs.Prelude.{◌≡◌, IfOk, OnOk, fold};
 ghost use Rattle.serde_json.specs.View.{view};
-ghost use Rattle.kg_schema.specs.Bases.{base_of};
+ghost use Rattle.kg_row_making.specs.Bases.{base_of};
 ghost use Rattle.kg_schema.specs.Between.{doubles_url, service_faults};
 ghost use Rattle.kg_schema.specs.Finished.{address_over, service_before, service_over};
-ghost use Rattle.kg_schema.specs.Rules.{tell};
-ghost use Rattle.kg_schema.specs.Settings.{url_at};
+ghost use Rattle.kg_field_rules.specs.Rules.{tell};
+ghost use Rattle.kg_bodies.specs.Settings.{url_at};
 
-use crate::base::{Base, Stamps};
-use crate::fault::Faults;
 use crate::row::member::is_set_at;
-use crate::row::set::{narrow, set, set_option};
 use crate::row::tell::tell_if;
-use crate::rule::Rule;
-use crate::settings::{flag_at, text_at, url_at, whole_at};
-use crate::word::Word;
-use kg_entities::Service;
+use kg_bodies::settings::{flag_at, text_at, url_at, whole_at};
+use kg_field_rules::fault::Faults;
+use kg_field_rules::rule::Rule;
+use kg_field_rules::word::Word;
+use kg_row_making::base::{Base, Stamps};
+use kg_row_making::set::{narrow, set, set_option};
+use kg_row_types::service::Service;
 use kg_text::{NoMemory, Text, TryClone};
 use serde_json::Value;
 use std::alloc::Global;

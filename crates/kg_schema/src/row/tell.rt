@@ -3,11 +3,11 @@
 ghost use Rattle.std.specs.Prelude.{◌≡◌, OnOk, fold};
 ghost use Rattle.std.specs.Option.{option_copied};
 ghost use Rattle.kg_schema.specs.Between.{fault_if, is_missing};
-ghost use Rattle.kg_schema.specs.Rules.{tell};
+ghost use Rattle.kg_field_rules.specs.Rules.{tell};
 
-use crate::fault::Faults;
-use crate::rule::Rule;
-use kg_entities::Id;
+use kg_field_rules::fault::Faults;
+use kg_field_rules::rule::Rule;
+use kg_row_types::id::Id;
 use kg_text::{NoMemory, Text};
 use std::alloc::Global;
 

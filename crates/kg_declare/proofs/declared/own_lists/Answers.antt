@@ -1,6 +1,6 @@
 use Rattle.std.proofs.Common.{[], ◌∷◌, codes, ap, ◌∙◌, refl}
 use Rattle.serde_json.specs.View.{members_view}
-use Rattle.kg_entities.specs.declared.entity.Kind.TheVariants as kind
+use Rattle.kg_row_types.specs.declared.entity.Kind.TheVariants as kind
 use Rattle.kg_declare.specs.Rows.{listed, without}
 use Rattle.kg_declare.proofs.DeclaredLemmas.{listed_after}
 use Rattle.kg_declare.proofs.declared.own_lists.Goals as goal

@@ -1,5 +1,5 @@
 use Rattle.std.proofs.Common.{◌++◌, map, codes, ap, ◌∙◌, refl}
-use Rattle.kg_entities.specs.declared.entity.Kind.TheVariants as kind
+use Rattle.kg_row_types.specs.declared.entity.Kind.TheVariants as kind
 use Rattle.kg_declare.specs.Rows.{nested, stripped}
 use Rattle.kg_declare.specs.SeenRows.{seen_all}
 use Rattle.kg_declare.proofs.DeclaredLemmas.{nested_skips}

@@ -1,6 +1,6 @@
 use Rattle.std.proofs.Common.{◌≡◌, fold}
 use Rattle.serde_json.specs.View.{members_view}
-use Rattle.kg_schema.specs.Rules.{tell}
+use Rattle.kg_field_rules.specs.Rules.{tell}
 use Rattle.kg_declare.specs.Faults.{member_faults}
 use Rattle.kg_declare.proofs.faults.tell_members.Given as goal
 

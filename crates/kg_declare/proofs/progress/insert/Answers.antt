@@ -1,5 +1,5 @@
 use Rattle.std.proofs.Common.{sym, subst}
-use Rattle.kg_entities.specs.ValidRows.{AreValidRows}
+use Rattle.kg_row_types.specs.ValidRows.{AreValidRows}
 use Rattle.kg_rows.specs.Decision.{decision}
 use Rattle.kg_declare.specs.Steps.{progress_at}
 use Rattle.kg_declare.proofs.HistoryLemmas.{step_consistent, step_leaves}

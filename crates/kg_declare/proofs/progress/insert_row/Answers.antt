@@ -1,7 +1,7 @@
 use Rattle.std.proofs.Common.{◌≡◌, ◌+◌, [], ◌++◌, length, ◌∙◌, sym, ap, subst}
 use Rattle.serde_json.specs.Data.{object}
 use Rattle.serde_json.specs.View.{members_view}
-use Rattle.kg_schema.specs.Settings.{id_at}
+use Rattle.kg_bodies.specs.Settings.{id_at}
 use Rattle.kg_rows.specs.Decision.{CanStandUnder, insertion}
 use Rattle.kg_declare.specs.Outcome.{decided, with_row}
 use Rattle.kg_declare.specs.SeenRows.{seen}

@@ -1,5 +1,5 @@
 use Rattle.std.proofs.Common.{◌≡◌, fold, map, take}
-use Rattle.kg_schema.specs.Rules.{tell}
+use Rattle.kg_field_rules.specs.Rules.{tell}
 use Rattle.kg_declare.specs.Outcome.{wrong_faults}
 use Rattle.kg_declare.proofs.progress.tell_wrong.Given as goal
 

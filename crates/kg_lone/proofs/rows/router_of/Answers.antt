@@ -1,5 +1,5 @@
 use Rattle.std.proofs.Common.{◌≡◌, ◌∙◌, All, IfOk, subst, sym}
-use Rattle.kg_entities.specs.ValidRows.{IsValidRoute}
+use Rattle.kg_row_types.specs.ValidRows.{IsValidRoute}
 use Rattle.kg_router.specs.RouterRows.{HasDistinctRoutes, RouterRows}
 use Rattle.kg_lone.proofs.InsertedLemmas.{routes_are, routing}
 use Rattle.kg_lone.proofs.rows.router_of.Goals as goal

@@ -1,5 +1,5 @@
 use Rattle.std.proofs.Common.{◌==◌, ◌<◌, IfSome, length, sym, subst, ◌∙◌}
-use Rattle.kg_entities.specs.declared.service.Service.{Service}
+use Rattle.kg_row_types.specs.declared.service.Service.{Service}
 use Rattle.kg_router.proofs.PlaceLemmas.{position-within}
 use Rattle.kg_router.proofs.candidate.place_of.Goals as goal
 

@@ -1,5 +1,5 @@
 use Rattle.std.proofs.Common.{◌==◌, Some, None, cond, option_and_then, sym, ap, ◌∙◌}
-use Rattle.kg_entities.specs.declared.service.Service.{Service}
+use Rattle.kg_row_types.specs.declared.service.Service.{Service}
 use Rattle.kg_router.proofs.TableLemmas.{if_enabled, place-some, place-none}
 use Rattle.kg_router.proofs.candidate.service_place.Goals as goal
 

@@ -1,7 +1,7 @@
 use Rattle.std.proofs.Common.{◌∙◌, sym}
 use Rattle.std.specs.Str.{bytes_eq}
 use Rattle.kg_rows.specs.Selections.{is_owned_under}
-use Rattle.kg_rows.proofs.Searches.{first_is_below, none_is_below}
+use Rattle.kg_row_values.proofs.Searches.{first_is_below, none_is_below}
 use Rattle.kg_rows.proofs.under.cred_with_username.Goals as goal
 
 -- the first of all is the first of those below

@@ -1,7 +1,7 @@
 use Rattle.std.proofs.Common.{◌∙◌, sym}
-use Rattle.kg_entities.specs.Lookups.{is_text}
+use Rattle.kg_row_types.specs.Lookups.{is_text}
 use Rattle.kg_rows.specs.Selections.{is_route_under}
-use Rattle.kg_rows.proofs.Searches.{first_is_below, none_is_below}
+use Rattle.kg_row_values.proofs.Searches.{first_is_below, none_is_below}
 use Rattle.kg_rows.proofs.under.named_route.Goals as goal
 
 -- the first of all is the first of those below

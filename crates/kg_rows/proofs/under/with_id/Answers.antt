@@ -1,6 +1,6 @@
 use Rattle.std.proofs.Common.{◌==◌, ◌∙◌}
 use Rattle.std.specs.Option.{option_copied, option_to_list}
-use Rattle.kg_rows.proofs.Searches.{found_among}
+use Rattle.kg_row_values.proofs.Searches.{found_among}
 use Rattle.kg_rows.proofs.under.with_id.Goals as goal
 
 pub returns : goal.returns

@@ -1,5 +1,5 @@
 use Rattle.std.proofs.Common.{◌∙◌}
-use Rattle.kg_rows.proofs.Searches.{find_below}
+use Rattle.kg_row_values.proofs.Searches.{find_below}
 use Rattle.kg_rows.proofs.under.with_word.Goals as goal
 
 pub returns : goal.returns

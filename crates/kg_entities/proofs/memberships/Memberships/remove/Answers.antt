@@ -1,6 +1,6 @@
 use Rattle.std.proofs.Common.{◌≡◌, Bool, [], ◌∷◌, nat_eq, filter, option_to_list, option_copied, sym, ap, ◌∙◌}
 use Rattle.kg_entities.specs.OwnerIndexes.{listed}
-use Rattle.kg_entities.specs.declared.consumer.AclRow.{AclRow}
+use Rattle.kg_row_types.specs.declared.consumer.AclRow.{AclRow}
 use Rattle.kg_entities.proofs.OwnerLemmas.{owners_removed, all_but_none}
 use Rattle.kg_entities.proofs.memberships.Memberships.remove.Goals as goal
 

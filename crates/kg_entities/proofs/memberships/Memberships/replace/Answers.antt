@@ -1,6 +1,6 @@
 use Rattle.std.proofs.Common.{◌≡◌, Bool, [], ◌∷◌, nat_eq, filter, option_to_list, option_copied, sym, ap, ◌∙◌}
 use Rattle.kg_entities.specs.OwnerIndexes.{exchanged, listed}
-use Rattle.kg_entities.specs.declared.consumer.AclRow.{AclRow}
+use Rattle.kg_row_types.specs.declared.consumer.AclRow.{AclRow}
 use Rattle.kg_entities.proofs.OwnerLemmas.{owners_replaced, none_replaced}
 use Rattle.kg_entities.proofs.memberships.Memberships.replace.Goals as goal
 

@@ -1,6 +1,6 @@
 use Rattle.std.proofs.Common.{◌≡◌, Bool, false, Some, find, is_some, option_copied, sym, ap, ◌∙◌}
 use Rattle.std.specs.List.{list_any}
-use Rattle.kg_entities.specs.Lookups.{is_text}
+use Rattle.kg_row_types.specs.Lookups.{is_text}
 use Rattle.kg_entities.specs.TextIndexes.{forgotten, holder_of}
 use Rattle.kg_entities.proofs.TableLemmas.{is_some-find}
 use Rattle.kg_entities.proofs.TextIndexLemmas.{has_id, all_left, index_removed}

@@ -1,6 +1,6 @@
 use Rattle.std.proofs.Common.{◌≡◌, Bool, false, Some, find, is_some, option_copied, sym, ap, subst, ◌∙◌}
 use Rattle.std.specs.List.{list_any}
-use Rattle.kg_entities.specs.Tables.{replaced}
+use Rattle.kg_row_types.specs.Tables.{replaced}
 use Rattle.kg_entities.specs.TextIndexes.{IsIndex, holder_of}
 use Rattle.kg_entities.proofs.TableLemmas.{is_some-find, not_replaced}
 use Rattle.kg_entities.proofs.TextIndexLemmas.{has_id, index_replaced, noted_alike, forgotten_alike}

@@ -1,5 +1,5 @@
 use Rattle.std.proofs.Common.{Some, find, sym, ap, ◌∙◌}
-use Rattle.kg_entities.specs.Lookups.{is_text}
+use Rattle.kg_row_types.specs.Lookups.{is_text}
 use Rattle.kg_entities.specs.TextIndexes.{holder_of}
 use Rattle.kg_entities.proofs.TextIndexLemmas.{found_none, found_only}
 use Rattle.kg_entities.proofs.named_table.NamedTable.with_name.Goals as goal

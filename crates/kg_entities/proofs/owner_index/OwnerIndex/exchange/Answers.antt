@@ -1,6 +1,6 @@
 use Rattle.std.proofs.Common.{Bool, cond, List, [], ◌∷◌, ◌++◌, nat_eq, filter, not, unwrap_or, sym, ap, ◌∙◌}
 use Rattle.indexmap.specs.IndexMap.{get}
-use Rattle.kg_entities.specs.declared.consumer.AclRow.{AclRow}
+use Rattle.kg_row_types.specs.declared.consumer.AclRow.{AclRow}
 use Rattle.kg_entities.proofs.OwnerLemmas.{changed_list, exchange_other, is_false}
 use Rattle.kg_entities.proofs.owner_index.OwnerIndex.exchange.Goals as goal
 

@@ -2,7 +2,7 @@ use Rattle.std.proofs.Common.{◌≡◌, List, [], nat_eq, filter, not, unwrap_o
 use Rattle.std.specs.Option.{option_copied_mut}
 use Rattle.indexmap.specs.IndexMap.{get}
 use Rattle.std.proofs.lemmas.Fn.{filter_same}
-use Rattle.kg_entities.specs.declared.consumer.AclRow.{AclRow}
+use Rattle.kg_row_types.specs.declared.consumer.AclRow.{AclRow}
 use Rattle.kg_entities.proofs.OwnerLemmas.{changed_list}
 use Rattle.kg_entities.proofs.owner_index.OwnerIndex.forget.Goals as goal
 

@@ -2,7 +2,7 @@ use Rattle.std.proofs.Common.{◌≡◌, cond, Option, Some, List, [], ◌∷◌
 use Rattle.std.proofs.lemmas.Result.{on_err_weaker}
 use Rattle.std.specs.Option.{option_copied_mut}
 use Rattle.indexmap.specs.IndexMap.{get}
-use Rattle.kg_entities.specs.declared.consumer.AclRow.{AclRow}
+use Rattle.kg_row_types.specs.declared.consumer.AclRow.{AclRow}
 use Rattle.kg_entities.proofs.OwnerLemmas.{changed_list, either_same}
 use Rattle.kg_entities.proofs.owner_index.OwnerIndex.note.Goals as goal
 

@@ -3,7 +3,7 @@ use Rattle.std.proofs.lemmas.List.Elements.{All-filter}
 use Rattle.std.specs.Map.{values_of}
 use Rattle.indexmap.proofs.CallerLemmas.{filter-RetainsPairs}
 use Rattle.kg_entities.proofs.TableLemmas.{Tied, values-filter}
-use Rattle.kg_entities.specs.RowChanges.{names_row}
+use Rattle.kg_row_types.specs.RowChanges.{names_row}
 use Rattle.kg_entities.proofs.table.RowTable+PluginRow.remove_of.Goals as goal
 
 -- the rows that are left are tied

@@ -2,7 +2,7 @@ use Rattle.std.proofs.Common.{◌≡◌, true, nat_eq, All, is_some, sym, ap, su
 use Rattle.std.specs.List.{list_any}
 use Rattle.std.specs.Map.{lookup, values_of}
 use Rattle.indexmap.specs.IndexMap.{insert_entry}
-use Rattle.kg_entities.specs.Tables.{replaced}
+use Rattle.kg_row_types.specs.Tables.{replaced}
 use Rattle.kg_entities.proofs.TableLemmas.{Tied, found_tied, is_some-find, replaced_tied, not_replaced, tied_insert}
 use Rattle.kg_entities.proofs.table.RowTable.replace.Goals.{in-Ok+in-Some-1, in-Ok+in-None-1, in-Err-2}
 use Rattle.kg_entities.proofs.table.RowTable.replace.Goals as goal

@@ -1,0 +1,63 @@
+-- An object in which nothing is broken has members that are accepted, each by itself.
+use Rattle.std.proofs.Common.{◌≡◌, ℕ, List, [], ◌∷◌, ◌++◌, Option, Some, None, refl, sym, subst, ◌∙◌}
+use Rattle.std.proofs.lemmas.Map.Lookups.{exact_bytes}
+use Rattle.std.specs.Cmp.Lexicographic.{slice_cmp}
+use Rattle.std.specs.Ordering.{nat_cmp, match_ordering}
+use Rattle.std.specs.declared.cmp.Ordering.{Ordering}
+use Rattle.std.specs.declared.cmp.Ordering.TheVariants.{Less, Equal, Greater}
+use Rattle.serde_json.specs.Data.{Data, null, boolean, number, string, array, object, Members, no_members, member}
+use Rattle.serde_json.specs.Find.{get_member}
+use Rattle.kg_field_tables.specs.Accepted.{AcceptsMembers, IsAccepted}
+use Rattle.kg_field_tables.specs.BrokenRules.{faults_in, faults_inside, field_rule, told}
+use Rattle.kg_field_tables.specs.FieldTables.{field_of}
+use Rattle.kg_field_rules.specs.declared.rule.Rule.{Rule}
+use Rattle.kg_field_tables.specs.declared.table.Table.{Table}
+
+nil_parts : {A : Type 0} (xs ys : List A) → xs ++ ys ≡ [] → (xs ≡ []) × (ys ≡ [])
+nil_parts [] ys h = (refl, h)
+nil_parts (x ∷ xs) ys h = cc
+
+nothing_told : (path : List ℕ) (rule : Option Rule) → told path rule ≡ [] → rule ≡ None
+nothing_told path None h = refl
+nothing_told path (Some rule) h = cc
+
+-- texts that compare as equal are one text
+same_key : (k l : List ℕ) → slice_cmp nat_cmp k l ≡ Equal → l ≡ k
+same_key k l same = sym (exact_bytes k l same)
+
+-- the faults of the first member, and those of the rest
+step : (name : List ℕ) (d : Data) (rest : Members) (table : Table) (front : List ℕ)
+    → faults_in (member name d rest) table front
+    ≡ told (front ++ name) (field_rule (field_of table name) d) ++ faults_inside d (field_of table name) (front ++ name) ++ faults_in rest table front
+step name null rest table front = refl
+step name (boolean b) rest table front = refl
+step name (number n) rest table front = refl
+step name (string s) rest table front = refl
+step name (array ds) rest table front = refl
+step name (object ms) rest table front = refl
+
+first_faults : (name : List ℕ) (d : Data) (rest : Members) (table : Table) (front : List ℕ) → faults_in (member name d rest) table front ≡ []
+    → IsAccepted table front name d × (faults_in rest table front ≡ [])
+first_faults name d rest table front h =
+    let itself = told (front ++ name) (field_rule (field_of table name) d) in
+    let inside = faults_inside d (field_of table name) (front ++ name) in
+    let parts = nil_parts (itself ++ inside) (faults_in rest table front) (sym (step name d rest table front) ∙ h) in
+    let two = nil_parts itself inside parts.0 in
+    (record { itself = nothing_told (front ++ name) (field_rule (field_of table name) d) two.0; inside = two.1 }, parts.1)
+
+some_same : {A : Type 0} (x y : A) → Some x ≡ Some y → x ≡ y
+some_same x y h = cc
+
+at_order : (table : Table) (front name l : List ℕ) (d e : Data) (later : Option Data) (o : Ordering) → slice_cmp nat_cmp name l ≡ o
+    → match_ordering o later (Some e) later ≡ Some d → IsAccepted table front l e → (later ≡ Some d → IsAccepted table front name d) → IsAccepted table front name d
+at_order table front name l d e later Less is found here there = there found
+at_order table front name l d e later Greater is found here there = there found
+at_order table front name l d e later Equal is found here there =
+    subst (λ x. IsAccepted table front name x) (some_same e d found) (subst (λ k. IsAccepted table front k e) (same_key name l is) here)
+
+pub members_accepted : AcceptsMembers
+members_accepted no_members table front name d h found = cc
+members_accepted (member l e rest) table front name d h found =
+    let parts = first_faults l e rest table front h in
+    at_order table front name l d e (get_member name rest) (slice_cmp nat_cmp name l) refl found parts.0
+    (λ later. members_accepted rest table front name d parts.1 later)

@@ -1,0 +1,4 @@
+pub mod AcceptedLemmas
+pub mod DistinctTexts
+pub mod InsideLemmas
+pub mod ItemLemmas

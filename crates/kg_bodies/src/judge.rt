@@ -1,0 +1,275 @@
+//! Which rule a value breaks, by the shape of its field.
+
+pub mod headers;
+
+ghost use Rattle.std.specs.Prelude.{◌≡◌, ◌==◌, IfOk, Some, None, if◌then◌else◌, option_map, length};
+ghost use Rattle.std.specs.Str.{bytes_eq};
+ghost use Rattle.kg_field_rules.specs.declared.rule.Rule.TheVariants.{WrongType};
+ghost use Rattle.std.specs.Option.{option_map_or};
+ghost use Rattle.std.specs.List.{list_all, list_any};
+ghost use Rattle.serde_json.specs.Find.{as_object};
+ghost use Rattle.serde_json.specs.View.{number_view, view};
+ghost use Rattle.kg_field_rules.specs.Choices.{is_choice};
+ghost use Rattle.kg_field_tables.specs.Judging.{count_members, integer_rule, is_set, judged, list_rule, by_id, by_name, by_text, only_text, protocols_rule, reference_of, shape_rule, whole_rule};
+ghost use Rattle.kg_field_rules.specs.TextRules.{choice_rule, has_form, is_longer, text_rule};
+
+use crate::judge::headers::headers_rule;
+use crate::texts::{are_distinct, kept_texts, texts_of};
+use kg_field_rules::rule::Rule;
+use kg_field_rules::text_rule::{choice_rule, has_form, is_choice, is_longer, text_rule};
+use kg_field_rules::word::{Choice, Word};
+use kg_field_tables::reference::{Mention, Reference};
+use kg_field_tables::shape::Shape;
+use kg_row_types::id::Id;
+use kg_text::{List, NoMemory, Text};
+use serde_json::{Number, Value};
+use std::alloc::Global;
+
+/// The rule that a value breaks.
+pub fn judged(alloc: Global, shape: Shape, value: &Value) -> Result<Option<Rule>, NoMemory>
+    ensures { IfOk result (λ rule. rule ≡ judged shape (view value.now)) }
+{
+    if is_set(value) {
+        shape_rule(alloc, shape, value)
+    } else {
+        Ok(None)
+    }
+}
+
+/// null and the empty list count as not set.
+pub fn is_set(value: &Value) -> bool
+    ensures { result ≡ is_set (view value.now) }
+{
+    match value.as_array() {
+        Some(items) => !items.is_empty(),
+        None => !value.is_null(),
+    }
+}
+
+fn shape_rule(alloc: Global, shape: Shape, value: &Value) -> Result<Option<Rule>, NoMemory>
+    ensures { IfOk result (λ rule. rule ≡ shape_rule shape (view value.now)) }
+{
+    match shape {
+        Shape::Text(word) => match value.as_str() {
+            Some(text) => text_rule(alloc, word, text),
+            None => Ok(Some(Rule::WrongType)),
+        },
+        Shape::Texts(word) => match texts_of(alloc, value)? {
+            Some(texts) => list_rule(alloc, word, &texts),
+            None => Ok(Some(Rule::WrongType)),
+        },
+        Shape::OneOf(choice) => match value.as_str() {
+            Some(text) => Ok(choice_rule(choice, text)),
+            None => Ok(Some(Rule::WrongType)),
+        },
+        Shape::Protocols => match texts_of(alloc, value)? {
+            Some(texts) => protocols_rule(alloc, &texts),
+            None => Ok(Some(Rule::WrongType)),
+        },
+        Shape::Whole { low, high } => match value.as_number() {
+            Some(number) => Ok(whole_rule(low, high, number)),
+            None => Ok(Some(Rule::WrongType)),
+        },
+        Shape::Integer { low, high } => match value.as_number() {
+            Some(number) => Ok(integer_rule(low, high, number)),
+            None => Ok(Some(Rule::WrongType)),
+        },
+        Shape::Flag => Ok(wrong_unless(value.is_boolean())),
+        Shape::Reference(how) => match reference_of(alloc, how, value)? {
+            Ok(_) => Ok(None),
+            Err(rule) => Ok(Some(rule)),
+        },
+        Shape::Headers => match value.as_object() {
+            Some(members) => headers_rule(alloc, members),
+            None => Ok(Some(Rule::WrongType)),
+        },
+        Shape::Object => Ok(wrong_unless(value.is_object())),
+    }
+}
+
+fn wrong_unless(fits: bool) -> Option<Rule>
+    ensures { result ≡ (if fits then None else Some WrongType) }
+{
+    if fits { None } else { Some(Rule::WrongType) }
+}
+
+/// The first rule that a list of texts breaks.
+pub fn list_rule(alloc: Global, word: Word, texts: &List<Text>) -> Result<Option<Rule>, NoMemory>
+    ensures { IfOk result (λ rule. rule ≡ list_rule word texts.now) }
+{
+    if is_any_empty(texts.as_slice()) {
+        return Ok(Some(Rule::Empty));
+    }
+    if texts.len() > 64 || is_any_longer(word, texts.as_slice()) {
+        return Ok(Some(Rule::OutOfRange));
+    }
+    if !have_form(alloc, word, texts.as_slice())? {
+        return Ok(Some(Rule::Syntax));
+    }
+    let kept = kept_texts(alloc, word, texts.as_slice())?;
+    if are_distinct(alloc, kept.as_slice())? {
+        Ok(None)
+    } else {
+        Ok(Some(Rule::Repeated))
+    }
+}
+
+fn is_any_empty(texts: &[Text]) -> bool
+    ensures { result ≡ list_any (λ text. length text == 0) texts.now }
+{
+    texts.iter().any(|text| text.len() == 0)
+}
+
+fn is_any_longer(word: Word, texts: &[Text]) -> bool
+    ensures { result ≡ list_any (is_longer word) texts.now }
+{
+    texts.iter().any(|text| is_longer(word, text.as_str()))
+}
+
+fn have_form(alloc: Global, word: Word, texts: &[Text]) -> Result<bool, NoMemory>
+    ensures { IfOk result (λ all. all ≡ list_all (has_form word) texts.now) }
+{
+    for text in texts {
+        if !has_form(alloc, word, text.as_str())? {
+            return Ok(false);
+        }
+    }
+    Ok(true)
+}
+
+fn protocols_rule(alloc: Global, texts: &List<Text>) -> Result<Option<Rule>, NoMemory>
+    ensures { IfOk result (λ rule. rule ≡ protocols_rule texts.now) }
+{
+    if texts.len() > 64 {
+        return Ok(Some(Rule::OutOfRange));
+    }
+    if !are_protocols(texts.as_slice()) || !has_text("http", texts.as_slice()) {
+        return Ok(Some(Rule::OneOf));
+    }
+    if are_distinct(alloc, texts.as_slice())? {
+        Ok(None)
+    } else {
+        Ok(Some(Rule::Repeated))
+    }
+}
+
+fn are_protocols(texts: &[Text]) -> bool
+    ensures { result ≡ list_all (is_choice Choice.Protocol) texts.now }
+{
+    texts
+        .iter()
+        .all(|text| is_choice(Choice::Protocol, text.as_str()))
+}
+
+/// Does the text stand among these?
+pub fn has_text(wanted: &str, texts: &[Text]) -> bool
+    ensures { result ≡ list_any (bytes_eq wanted.now) texts.now }
+{
+    texts.iter().any(|text| wanted == text.as_str())
+}
+
+fn whole_rule(low: u64, high: u64, number: &Number) -> Option<Rule>
+    ensures { result ≡ whole_rule low high (number_view number.now) }
+{
+    if number.is_f64() {
+        return Some(Rule::WrongType);
+    }
+    match number.as_u64() {
+        Some(n) => {
+            if low <= n && n <= high {
+                None
+            } else {
+                Some(Rule::OutOfRange)
+            }
+        }
+        None => Some(Rule::OutOfRange),
+    }
+}
+
+fn integer_rule(low: i64, high: i64, number: &Number) -> Option<Rule>
+    ensures { result ≡ integer_rule low high (number_view number.now) }
+{
+    if number.is_f64() {
+        return Some(Rule::WrongType);
+    }
+    match number.as_i64() {
+        Some(n) => {
+            if low <= n && n <= high {
+                None
+            } else {
+                Some(Rule::OutOfRange)
+            }
+        }
+        None => Some(Rule::OutOfRange),
+    }
+}
+
+/// The row that a value names, or the rule that the value breaks.
+pub fn reference_of(
+    alloc: Global,
+    how: Mention,
+    value: &Value,
+) -> Result<Result<Reference, Rule>, NoMemory>
+    ensures { IfOk result (λ found. found ≡ reference_of how (view value.now)) }
+{
+    if let Some(text) = value.as_str() {
+        return by_text(alloc, how, text);
+    }
+    if let Some(text) = only_text("id", value) {
+        return Ok(by_id(text));
+    }
+    if let Some(text) = only_text(how.member(), value) {
+        return by_name(alloc, how, text);
+    }
+    Ok(Err(Rule::WrongType))
+}
+
+fn by_text(alloc: Global, how: Mention, text: &str) -> Result<Result<Reference, Rule>, NoMemory>
+    ensures { IfOk result (λ found. found ≡ by_text how text.now) }
+{
+    match Id::parse(text.as_bytes()) {
+        Some(id) => Ok(Ok(Reference::Id(id))),
+        None => by_name(alloc, how, text),
+    }
+}
+
+fn by_id(text: &str) -> Result<Reference, Rule>
+    ensures { result ≡ by_id text.now }
+{
+    if text.is_empty() {
+        return Err(Rule::Empty);
+    }
+    match Id::parse(text.as_bytes()) {
+        Some(id) => Ok(Reference::Id(id)),
+        None => Err(Rule::Syntax),
+    }
+}
+
+fn by_name(alloc: Global, how: Mention, text: &str) -> Result<Result<Reference, Rule>, NoMemory>
+    ensures { IfOk result (λ found. found ≡ by_name how text.now) }
+{
+    match text_rule(alloc, how.word(), text)? {
+        Some(rule) => Ok(Err(rule)),
+        None => Ok(Ok(Reference::Name(Text::from_str(alloc, text)?))),
+    }
+}
+
+// The text of the member of this name, where the object has no other.
+fn only_text<'v>(name: &str, value: &'v Value) -> Option<&'v str>
+    ensures { option_map (λ text. text.now) result ≡ only_text name.now (view value.now) }
+{
+    if count_members(value) == 1 {
+        value.get(name).and_then(Value::as_str)
+    } else {
+        None
+    }
+}
+
+fn count_members(value: &Value) -> usize
+    ensures { result ≡ option_map_or count_members (as_object (view value.now)) 0 }
+{
+    match value.as_object() {
+        Some(members) => members.len(),
+        None => 0,
+    }
+}

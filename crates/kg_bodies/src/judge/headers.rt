@@ -1,0 +1,95 @@
+//! The headers that a route asks for.
+
+ghost use Rattle.std.specs.Prelude.{◌≡◌, IfOk, map};
+ghost use Rattle.std.specs.Str.{str_to_ascii_lowercase};
+ghost use Rattle.serde_json.specs.View.{members_view, view};
+ghost use Rattle.kg_field_tables.specs.Judging.{each_header_rule, header_rule, headers_rule, is_any_set, is_header, member_names, values_rule};
+
+use crate::judge::{is_set, list_rule};
+use crate::texts::{are_distinct, lower_case, texts_of};
+use kg_field_rules::rule::{Rule, sooner};
+use kg_field_rules::text_rule::is_token;
+use kg_field_rules::word::Word;
+use kg_text::{List, NoMemory, Text};
+use serde_json::{Map, Value};
+use std::alloc::Global;
+
+/// The first rule that an object of headers breaks.
+pub fn headers_rule(alloc: Global, members: &Map<String, Value>) -> Result<Option<Rule>, NoMemory>
+    ensures { IfOk result (λ rule. rule ≡ headers_rule (members_view members.now.entries)) }
+{
+    if !is_any_set(members) {
+        return Ok(None);
+    }
+    let rule = each_header_rule(alloc, members)?;
+    let names = lower_names(alloc, members)?;
+    if are_distinct(alloc, names.as_slice())? {
+        Ok(sooner(rule, None))
+    } else {
+        Ok(sooner(rule, Some(Rule::Repeated)))
+    }
+}
+
+/// Is a member of the object set?
+pub fn is_any_set(members: &Map<String, Value>) -> bool
+    ensures { result ≡ is_any_set (members_view members.now.entries) }
+{
+    for (_name, value) in members.iter() {
+        if is_set(value) {
+            return true;
+        }
+    }
+    false
+}
+
+#[tactic(auto, using(kg_field_rules::proofs::RuleLemmas::sooner_assoc, kg_field_rules::proofs::RuleLemmas::sooner_none))]
+fn each_header_rule(alloc: Global, members: &Map<String, Value>) -> Result<Option<Rule>, NoMemory>
+    ensures { IfOk result (λ rule. rule ≡ each_header_rule (members_view members.now.entries)) }
+{
+    let mut rule = None;
+    for (name, value) in members.iter() {
+        rule = sooner(rule, header_rule(alloc, name.as_str(), value)?);
+    }
+    Ok(rule)
+}
+
+/// The first rule that one header breaks.
+pub fn header_rule(alloc: Global, name: &str, value: &Value) -> Result<Option<Rule>, NoMemory>
+    ensures { IfOk result (λ rule. rule ≡ header_rule name.now (view value.now)) }
+{
+    let rule = values_rule(alloc, value)?;
+    if is_header(alloc, name)? {
+        Ok(sooner(rule, None))
+    } else {
+        Ok(sooner(rule, Some(Rule::Syntax)))
+    }
+}
+
+fn values_rule(alloc: Global, value: &Value) -> Result<Option<Rule>, NoMemory>
+    ensures { IfOk result (λ rule. rule ≡ values_rule (view value.now)) }
+{
+    if !is_set(value) {
+        return Ok(None);
+    }
+    match texts_of(alloc, value)? {
+        Some(texts) => list_rule(alloc, Word::FreeText, &texts),
+        None => Ok(Some(Rule::WrongType)),
+    }
+}
+
+fn is_header(alloc: Global, name: &str) -> Result<bool, NoMemory>
+    ensures { IfOk result (λ is. is ≡ is_header name.now) }
+{
+    Ok(is_token(name.as_bytes()) && lower_case(alloc, name)?.as_str() != "host")
+}
+
+// The names in lower case, in the order of the members.
+fn lower_names(alloc: Global, members: &Map<String, Value>) -> Result<List<Text>, NoMemory>
+    ensures { IfOk result (λ names. names ≡ map str_to_ascii_lowercase (member_names (members_view members.now.entries))) }
+{
+    let mut names = List::new(alloc);
+    for (name, _value) in members.iter() {
+        names.push(lower_case(alloc, name.as_str())?)?;
+    }
+    Ok(names)
+}

@@ -1,0 +1,67 @@
+-- Which of several rules counts, and that told faults aren't lost.
+use Rattle.std.proofs.Common.{◌≡◌, nat_le, Bool, true, false, List, [], ◌∷◌, fold, Option, Some, None, if◌then◌else◌, refl, sym, ap, ◌∙◌, arith}
+use Rattle.std.proofs.lemmas.Bool.Decides.{nat_tests}
+use Rattle.std.specs.BTreeMap.{insert_entry}
+use Rattle.std.specs.Cmp.Lexicographic.{slice_cmp}
+use Rattle.std.specs.Ordering.{nat_cmp, match_ordering}
+use Rattle.std.specs.declared.cmp.Ordering.{Ordering}
+use Rattle.std.specs.declared.cmp.Ordering.TheVariants.{Less, Equal, Greater}
+use Rattle.kg_field_rules.specs.Rules.{Fault, in_order, rank, sooner, tell}
+use Rattle.kg_field_rules.specs.declared.rule.Rule.{Rule}
+
+-- ---- the rule that counts
+
+pub sooner_none : (rule : Option Rule) → sooner rule None ≡ rule
+sooner_none None = refl
+sooner_none (Some rule) = refl
+
+abbrev first : Rule → Rule → Rule
+first a b = if nat_le (rank a) (rank b) then a else b
+
+-- by the ranks alone
+first_assoc : (a b c : Rule) → first (first a b) c ≡ first a (first b c)
+first_assoc a b c = at_tests (nat_le (rank a) (rank b)) (nat_le (rank b) (rank c)) refl refl
+  where
+    at_tests : (ab bc : Bool) → nat_le (rank a) (rank b) ≡ ab → nat_le (rank b) (rank c) ≡ bc
+        → (let front = (if ab then a else b) in if nat_le (rank front) (rank c) then front else c)
+        ≡ (let back = (if bc then b else c) in if nat_le (rank a) (rank back) then a else back)
+    at_tests true true x y = let z : nat_le (rank a) (rank c) ≡ true = grind (arith, nat_tests) in rw (z, x) refl
+    at_tests true false x y = refl
+    at_tests false true x y = rw (x, y) refl
+    at_tests false false x y = let z : nat_le (rank a) (rank c) ≡ false = grind (arith, nat_tests) in rw (z, y) refl
+
+pub sooner_assoc : (a b c : Option Rule) → sooner (sooner a b) c ≡ sooner a (sooner b c)
+sooner_assoc None b c = refl
+sooner_assoc (Some a) None c = refl
+sooner_assoc (Some a) (Some b) None = sooner_none (sooner (Some a) (Some b))
+sooner_assoc (Some a) (Some b) (Some c) = out ∙ ap Some (first_assoc a b c) ∙ back
+  where
+    some_if : (t : Bool) (x y : Rule) → (if t then Some x else Some y) ≡ Some (if t then x else y)
+    some_if true x y = refl
+    some_if false x y = refl
+
+    out : sooner (sooner (Some a) (Some b)) (Some c) ≡ Some (first (first a b) c)
+    out = ap (λ o. sooner o (Some c)) (some_if (nat_le (rank a) (rank b)) a b) ∙ some_if (nat_le (rank (first a b)) (rank c)) (first a b) c
+
+    back : Some (first a (first b c)) ≡ sooner (Some a) (sooner (Some b) (Some c))
+    back = sym (ap (sooner (Some a)) (some_if (nat_le (rank b) (rank c)) b c) ∙ some_if (nat_le (rank a) (rank (first b c))) a (first b c))
+
+-- ---- told faults
+
+-- an entry that was put in stands there
+put_stands : {K X : Type 0} (cmp : K → K → Ordering) (es : List (K × X)) (k : K) (v : X) → ¬ (insert_entry cmp es k v ≡ [])
+put_stands cmp [] k v h = cc
+put_stands cmp (e ∷ es) k v h = at_order (cmp k e.0) h
+  where
+    at_order : (o : Ordering) → match_ordering o ((k, v) ∷ e ∷ es) ((e.0, v) ∷ es) (e ∷ insert_entry cmp es k v) ≡ [] → ⊥
+    at_order Less h = cc
+    at_order Equal h = cc
+    at_order Greater h = cc
+
+still_empty : (told faults : List Fault) → fold tell told faults ≡ [] → (told ≡ []) × (faults ≡ [])
+still_empty told [] h = (h, refl)
+still_empty told (fault ∷ faults) h = absurd (put_stands (slice_cmp nat_cmp) told fault.0 _ (still_empty (tell told fault) faults h).0)
+
+-- where nothing is told in the end, nothing was
+pub in_order_none : (faults : List Fault) → in_order faults ≡ [] → faults ≡ []
+in_order_none faults h = (still_empty [] faults h).1

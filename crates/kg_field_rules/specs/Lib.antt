@@ -1,0 +1,5 @@
+pub mod Choices
+pub mod Rules
+pub mod TextRules
+pub mod UrlParts
+pub mod Urls

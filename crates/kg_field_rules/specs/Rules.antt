@@ -1,0 +1,62 @@
+-- Broken rules of a body: their words, which of two counts, and the list that is told. The words and
+-- their order are this project's own.
+use Rattle.std.specs.Prelude.{ℕ, List, [], map, fold, Option, Some, None, unwrap_or, codes, nat_le, if◌then◌else◌}
+use Rattle.std.specs.BTreeMap.{insert_entry, is_at}
+use Rattle.std.specs.Cmp.Lexicographic.{slice_cmp}
+use Rattle.std.specs.Map.{lookup}
+use Rattle.std.specs.Ordering.{nat_cmp}
+use Rattle.kg_field_rules.specs.declared.fault.Broken.{Broken}
+use Rattle.kg_field_rules.specs.declared.rule.Rule.{Rule}
+use Rattle.kg_field_rules.specs.declared.rule.Rule.TheVariants.{Required, Unknown, WrongType, Empty, OutOfRange, Syntax, OneOf, Fixed, Exclusive, Repeated}
+
+-- the word of a rule
+abbrev pub rule_word : Rule → List ℕ
+rule_word Unknown = codes "unknown"
+rule_word Fixed = codes "fixed"
+rule_word WrongType = codes "type"
+rule_word Empty = codes "empty"
+rule_word OutOfRange = codes "out of range"
+rule_word OneOf = codes "one of"
+rule_word Syntax = codes "syntax"
+rule_word Repeated = codes "repeated"
+rule_word Exclusive = codes "exclusive"
+rule_word Required = codes "required"
+
+-- the place of a rule in the order in which rules count
+abbrev pub rank : Rule → ℕ
+rank Unknown = 0
+rank Fixed = 1
+rank WrongType = 2
+rank Empty = 3
+rank OutOfRange = 4
+rank OneOf = 5
+rank Syntax = 6
+rank Repeated = 7
+rank Exclusive = 8
+rank Required = 9
+
+-- the one that counts, of two rules that may be broken
+abbrev pub sooner : Option Rule → Option Rule → Option Rule
+sooner None other = other
+sooner (Some rule) None = Some rule
+sooner (Some rule) (Some other) = if nat_le (rank rule) (rank other) then Some rule else Some other
+
+-- a rule that is broken, with the path of its field
+abbrev pub Fault : Type 0
+Fault = List ℕ × Rule
+
+-- the rule that counts at a path, where one more is told there
+abbrev pub counted : List Fault → List ℕ → Rule → Rule
+counted faults path rule = unwrap_or (sooner (lookup (is_at (slice_cmp nat_cmp path)) faults) (Some rule)) rule
+
+-- the faults with one more: in byte order of their paths, each path once
+abbrev pub tell : List Fault → Fault → List Fault
+tell faults fault = insert_entry (slice_cmp nat_cmp) faults fault.0 (counted faults fault.0 fault.1)
+
+-- faults in byte order of their paths, each path once with the rule that counts there
+abbrev pub in_order : List Fault → List Fault
+in_order faults = fold tell [] faults
+
+-- the faults as a violation lists them
+abbrev pub listed : List Fault → List Broken
+listed faults = map (λ fault. record { path = fault.0; rule = fault.1 }) faults

@@ -1,0 +1,127 @@
+//! Which rule a text breaks.
+
+mod block;
+mod edit;
+mod forms;
+mod pattern;
+
+ghost use Rattle.std.specs.Prelude.{◌≡◌, IfOk};
+ghost use Rattle.kg_field_rules.specs.Choices.{is_choice};
+ghost use Rattle.kg_field_rules.specs.TextRules.{choice_rule, has_form, is_longer, text_rule};
+
+use crate::rule::Rule;
+use crate::text_rule::block::has_ipv4_block_form;
+use crate::text_rule::edit::{has_edit_form, has_header_edit_form, has_header_rename_form};
+use crate::text_rule::forms::{
+    has_host_form, has_method_form, has_name_form, has_no_controls, has_route_host_form,
+    has_username_form,
+};
+pub use crate::text_rule::forms::{is_host, is_normal_path, is_token};
+use crate::text_rule::pattern::has_route_path_form;
+use crate::url::is_url;
+use crate::word::{Choice, Word};
+use kg_row_types::id::Id;
+use kg_text::NoMemory;
+use std::alloc::Global;
+
+/// The first rule that a text of a kind breaks.
+pub fn text_rule(alloc: Global, word: Word, text: &str) -> Result<Option<Rule>, NoMemory>
+    ensures { IfOk result (λ rule. rule ≡ text_rule word text.now) }
+{
+    if text.is_empty() {
+        return Ok(Some(word.rule_of_empty()));
+    }
+    if is_longer(word, text) {
+        return Ok(Some(Rule::OutOfRange));
+    }
+    if has_form(alloc, word, text)? {
+        Ok(None)
+    } else {
+        Ok(Some(Rule::Syntax))
+    }
+}
+
+/// Is the text longer than its kind allows?
+pub fn is_longer(word: Word, text: &str) -> bool
+    ensures { result ≡ is_longer word text.now }
+{
+    match word.longest() {
+        Some(most) => text.len() > most,
+        None => false,
+    }
+}
+
+/// Is the text spelled as its kind is?
+pub fn has_form(alloc: Global, word: Word, text: &str) -> Result<bool, NoMemory>
+    ensures { IfOk result (λ has. has ≡ has_form word text.now) }
+{
+    match word {
+        Word::Id => Ok(Id::parse(text.as_bytes()).is_some()),
+        Word::Path => Ok(is_normal_path(text.as_bytes())),
+        Word::Url => Ok(is_url(text.as_bytes())),
+        Word::RoutePath => has_route_path_form(alloc, text),
+        Word::LongText => Ok(has_no_controls(text)),
+        Word::Name => Ok(has_name_form(text.as_bytes())),
+        Word::FreeText => Ok(has_no_controls(text)),
+        Word::Username => Ok(has_username_form(text)),
+        Word::Anonymous => Ok(has_no_controls(text)),
+        Word::Host => Ok(has_host_form(text.as_bytes())),
+        Word::RouteHost => Ok(has_route_host_form(text.as_bytes())),
+        Word::Method => Ok(has_method_form(text.as_bytes())),
+        Word::Token => Ok(is_token(text.as_bytes())),
+        Word::AddressBlock => has_ipv4_block_form(alloc, text.as_bytes()),
+        Word::Edit => Ok(has_edit_form(text)),
+        Word::HeaderEdit => Ok(has_header_edit_form(text)),
+        Word::HeaderRename => Ok(has_header_rename_form(text)),
+    }
+}
+
+/// The rule that a text breaks which has to be one of a few.
+pub fn choice_rule(choice: Choice, text: &str) -> Option<Rule>
+    ensures { result ≡ choice_rule choice text.now }
+{
+    if is_choice(choice, text) {
+        None
+    } else {
+        Some(Rule::OneOf)
+    }
+}
+
+/// Is the text one of these?
+pub fn is_choice(choice: Choice, text: &str) -> bool
+    ensures { result ≡ is_choice choice text.now }
+{
+    match choice {
+        Choice::Plugin => is_plugin(text),
+        Choice::SizeUnit => match text {
+            "megabytes" | "kilobytes" | "bytes" => true,
+            _ => false,
+        },
+        Choice::LimitBy => match text {
+            "consumer" | "ip" | "service" => true,
+            _ => false,
+        },
+        Choice::Protocol => match text {
+            "http" | "https" => true,
+            _ => false,
+        },
+    }
+}
+
+fn is_plugin(text: &str) -> bool
+    ensures { result ≡ is_choice Choice.Plugin text.now }
+{
+    match text {
+        "cors"
+        | "key-auth"
+        | "basic-auth"
+        | "ip-restriction"
+        | "request-size-limiting"
+        | "acl"
+        | "rate-limiting"
+        | "request-transformer"
+        | "response-transformer"
+        | "request-termination" => true,
+        _ => false,
+    }
+}

@@ -1,0 +1,109 @@
+//! The kinds of texts that fields take.
+
+ghost use Rattle.std.specs.Prelude.{◌≡◌};
+ghost use Rattle.kg_field_rules.specs.TextRules.{longest, rule_of_empty};
+
+use crate::rule::Rule;
+
+/// A kind of text. What each takes, and how long it can be, stands in `specs/TextRules.antt`.
+#[derive(Clone, Copy, Debug, PartialEq, Eq)]
+pub enum Word {
+    /// The id of a row.
+    Id,
+    /// The name of a service or a route.
+    Name,
+    /// Any text without control characters.
+    FreeText,
+    /// A free text of up to 65,536 bytes.
+    LongText,
+    /// A free text that is no id.
+    Username,
+    /// A free text; an id is kept printed.
+    Anonymous,
+    /// The host of a service.
+    Host,
+    /// The host of a route, kept in lower case.
+    RouteHost,
+    /// A path in its own normal form.
+    Path,
+    /// Such a path, or a pattern behind `~`.
+    RoutePath,
+    /// `http://`, a host, optionally a port and a path.
+    Url,
+    /// Letters in upper case.
+    Method,
+    /// A token (RFC 9110, section 5.6.2).
+    Token,
+    /// An IPv4 address, or a block of them.
+    AddressBlock,
+    /// `name` or `name:value`, for arguments of a query.
+    Edit,
+    /// The same for headers.
+    HeaderEdit,
+    /// `name:name`, for headers.
+    HeaderRename,
+}
+
+/// A few texts of which a field takes one.
+#[derive(Clone, Copy, Debug, PartialEq, Eq)]
+pub enum Choice {
+    /// The names of the plugins.
+    Plugin,
+    /// `megabytes`, `kilobytes`, `bytes`.
+    SizeUnit,
+    /// `consumer`, `ip`, `service`.
+    LimitBy,
+    /// `http`, `https`.
+    Protocol,
+}
+
+impl Word {
+    /// The bytes that a text of this kind has at most, where there is a bound.
+    pub fn longest(self) -> Option<usize>
+        ensures { result ≡ longest self }
+    {
+        match self {
+            Word::Id => None,
+            Word::Path => None,
+            Word::Url => None,
+            Word::RoutePath => Some(256),
+            Word::LongText => Some(65_536),
+            Word::Name => Some(255),
+            Word::FreeText => Some(255),
+            Word::Username => Some(255),
+            Word::Anonymous => Some(255),
+            Word::Host => Some(255),
+            Word::RouteHost => Some(255),
+            Word::Method => Some(255),
+            Word::Token => Some(255),
+            Word::AddressBlock => Some(255),
+            Word::Edit => Some(255),
+            Word::HeaderEdit => Some(255),
+            Word::HeaderRename => Some(255),
+        }
+    }
+    /// The rule that an empty text of this kind breaks: every fault of a url is one of its syntax.
+    pub fn rule_of_empty(self) -> Rule
+        ensures { result ≡ rule_of_empty self }
+    {
+        match self {
+            Word::Url => Rule::Syntax,
+            Word::Id => Rule::Empty,
+            Word::Path => Rule::Empty,
+            Word::RoutePath => Rule::Empty,
+            Word::LongText => Rule::Empty,
+            Word::Name => Rule::Empty,
+            Word::FreeText => Rule::Empty,
+            Word::Username => Rule::Empty,
+            Word::Anonymous => Rule::Empty,
+            Word::Host => Rule::Empty,
+            Word::RouteHost => Rule::Empty,
+            Word::Method => Rule::Empty,
+            Word::Token => Rule::Empty,
+            Word::AddressBlock => Rule::Empty,
+            Word::Edit => Rule::Empty,
+            Word::HeaderEdit => Rule::Empty,
+            Word::HeaderRename => Rule::Empty,
+        }
+    }
+}

@@ -1,0 +1,4 @@
+pub mod Accepted
+pub mod BrokenRules
+pub mod FieldTables
+pub mod Judging

@@ -1,0 +1,238 @@
+//! The fields of every object that a body can have.
+
+mod config;
+
+ghost use Rattle.std.specs.Prelude.{◌≡◌, ◌≤◌};
+ghost use Rattle.kg_field_tables.specs.FieldTables.{config_field, depth_of, field_of, levels, table_of};
+
+use crate::constant::{Constant, Phrase};
+use crate::reference::Mention;
+use crate::shape::Shape;
+use crate::table::config::{config_table_field, request_edits_field, response_edits_field};
+use kg_field_rules::word::{Choice, Word};
+use kg_row_types::entity::Kind;
+use kg_row_types::plugin::PluginName;
+
+/// The fields of one object. What hangs on the object's place is told by the variant.
+#[derive(Clone, Copy, Debug, PartialEq, Eq)]
+pub enum Table {
+    Service,
+    Route,
+    Consumer,
+    KeyCred,
+    BasicCred,
+    Acl,
+    /// A plugin, with the name that the body gives.
+    Plugin(Option<PluginName>),
+    /// The config of a plugin.
+    Config(PluginName),
+    /// One object of lists of a request-transformer.
+    RequestEdits(EditList),
+    /// One object of lists of a response-transformer.
+    ResponseEdits(EditList),
+}
+
+/// The objects of lists of a transformer.
+#[derive(Clone, Copy, Debug, PartialEq, Eq)]
+pub enum EditList {
+    Remove,
+    Rename,
+    Replace,
+    Add,
+    Append,
+}
+
+/// What is taken under a name.
+#[derive(Clone, Copy, Debug, PartialEq, Eq)]
+pub enum Field {
+    /// Nothing: there is no such field.
+    Unknown,
+    /// Any value, which is ignored.
+    Dropped,
+    /// One value alone.
+    Fixed(Constant),
+    Judged(Shape),
+    /// An object with a table of its own.
+    Inside(Table),
+}
+
+/// The table of a kind. A plugin's hangs on the name that the body gives.
+pub fn table_of(kind: Kind, plugin: Option<PluginName>) -> Table
+    ensures { result ≡ table_of kind plugin }
+{
+    match kind {
+        Kind::Service => Table::Service,
+        Kind::Route => Table::Route,
+        Kind::Consumer => Table::Consumer,
+        Kind::KeyCred => Table::KeyCred,
+        Kind::BasicCred => Table::BasicCred,
+        Kind::Acl => Table::Acl,
+        Kind::Plugin => Table::Plugin(plugin),
+    }
+}
+
+/// The field of this name.
+pub fn field_of(table: Table, name: &str) -> Field
+    ensures field { result ≡ field_of table name.now }
+    ensures depth { depth_of result ≤ levels table }
+{
+    match table {
+        Table::Service => service_field(name),
+        Table::Route => route_field(name),
+        Table::Consumer => consumer_field(name),
+        Table::KeyCred => key_cred_field(name),
+        Table::BasicCred => basic_cred_field(name),
+        Table::Acl => acl_field(name),
+        Table::Plugin(plugin) => plugin_field(plugin, name),
+        Table::Config(plugin) => config_table_field(plugin, name),
+        Table::RequestEdits(edits) => request_edits_field(edits, name),
+        Table::ResponseEdits(edits) => response_edits_field(edits, name),
+    }
+}
+
+fn service_field(name: &str) -> Field
+    ensures field { result ≡ field_of Table.Service name.now }
+    ensures depth { depth_of result ≡ 0 }
+{
+    match name {
+        "name" => Field::Judged(Shape::Text(Word::Name)),
+        "protocol" => Field::Fixed(Constant::Phrase(Phrase::Http)),
+        "host" => Field::Judged(Shape::Text(Word::Host)),
+        "port" => Field::Judged(Shape::Whole {
+            low: 1,
+            high: 65_535,
+        }),
+        "path" => Field::Judged(Shape::Text(Word::Path)),
+        "retries" => Field::Judged(Shape::Whole {
+            low: 0,
+            high: 32_767,
+        }),
+        "enabled" => Field::Judged(Shape::Flag),
+        "url" => Field::Judged(Shape::Text(Word::Url)),
+        "connect_timeout"
+        | "read_timeout"
+        | "write_timeout"
+        | "tags"
+        | "ca_certificates"
+        | "client_certificate"
+        | "tls_verify"
+        | "tls_verify_depth" => Field::Dropped,
+        "id" => Field::Judged(Shape::Text(Word::Id)),
+        "created_at" | "updated_at" => Field::Dropped,
+        _ => Field::Unknown,
+    }
+}
+
+fn route_field(name: &str) -> Field
+    ensures field { result ≡ field_of Table.Route name.now }
+    ensures depth { depth_of result ≡ 0 }
+{
+    match name {
+        "name" => Field::Judged(Shape::Text(Word::Name)),
+        "service" => Field::Judged(Shape::Reference(Mention::Name)),
+        "protocols" => Field::Judged(Shape::Protocols),
+        "methods" => Field::Judged(Shape::Texts(Word::Method)),
+        "hosts" => Field::Judged(Shape::Texts(Word::RouteHost)),
+        "paths" => Field::Judged(Shape::Texts(Word::RoutePath)),
+        "headers" => Field::Judged(Shape::Headers),
+        "regex_priority" => Field::Judged(Shape::Integer {
+            low: -1_000_000,
+            high: 1_000_000,
+        }),
+        "strip_path" | "preserve_host" => Field::Judged(Shape::Flag),
+        "path_handling" => Field::Fixed(Constant::Phrase(Phrase::V0)),
+        "snis" | "sources" | "destinations" => Field::Fixed(Constant::Nothing),
+        "tags" | "request_buffering" | "response_buffering" | "https_redirect_status_code" => {
+            Field::Dropped
+        }
+        "id" => Field::Judged(Shape::Text(Word::Id)),
+        "created_at" | "updated_at" => Field::Dropped,
+        _ => Field::Unknown,
+    }
+}
+
+fn consumer_field(name: &str) -> Field
+    ensures field { result ≡ field_of Table.Consumer name.now }
+    ensures depth { depth_of result ≡ 0 }
+{
+    match name {
+        "username" => Field::Judged(Shape::Text(Word::Username)),
+        "custom_id" => Field::Judged(Shape::Text(Word::FreeText)),
+        "tags" => Field::Dropped,
+        "id" => Field::Judged(Shape::Text(Word::Id)),
+        "created_at" | "updated_at" => Field::Dropped,
+        _ => Field::Unknown,
+    }
+}
+
+fn key_cred_field(name: &str) -> Field
+    ensures field { result ≡ field_of Table.KeyCred name.now }
+    ensures depth { depth_of result ≡ 0 }
+{
+    match name {
+        "consumer" => Field::Judged(Shape::Reference(Mention::Username)),
+        "key" => Field::Judged(Shape::Text(Word::FreeText)),
+        "ttl" => Field::Fixed(Constant::Nothing),
+        "tags" => Field::Dropped,
+        "id" => Field::Judged(Shape::Text(Word::Id)),
+        "created_at" | "updated_at" => Field::Dropped,
+        _ => Field::Unknown,
+    }
+}
+
+fn basic_cred_field(name: &str) -> Field
+    ensures field { result ≡ field_of Table.BasicCred name.now }
+    ensures depth { depth_of result ≡ 0 }
+{
+    match name {
+        "consumer" => Field::Judged(Shape::Reference(Mention::Username)),
+        "username" | "password" => Field::Judged(Shape::Text(Word::FreeText)),
+        "tags" => Field::Dropped,
+        "id" => Field::Judged(Shape::Text(Word::Id)),
+        "created_at" | "updated_at" => Field::Dropped,
+        _ => Field::Unknown,
+    }
+}
+
+fn acl_field(name: &str) -> Field
+    ensures field { result ≡ field_of Table.Acl name.now }
+    ensures depth { depth_of result ≡ 0 }
+{
+    match name {
+        "consumer" => Field::Judged(Shape::Reference(Mention::Username)),
+        "group" => Field::Judged(Shape::Text(Word::FreeText)),
+        "tags" => Field::Dropped,
+        "id" => Field::Judged(Shape::Text(Word::Id)),
+        "created_at" | "updated_at" => Field::Dropped,
+        _ => Field::Unknown,
+    }
+}
+
+fn plugin_field(plugin: Option<PluginName>, name: &str) -> Field
+    ensures field { result ≡ field_of (Table.Plugin plugin) name.now }
+    ensures depth { depth_of result ≤ 2 }
+{
+    match name {
+        "name" => Field::Judged(Shape::OneOf(Choice::Plugin)),
+        "service" | "route" => Field::Judged(Shape::Reference(Mention::Name)),
+        "consumer" => Field::Judged(Shape::Reference(Mention::Username)),
+        "enabled" => Field::Judged(Shape::Flag),
+        "config" => config_field(plugin),
+        "ordering" => Field::Fixed(Constant::Nothing),
+        "protocols" | "tags" | "instance_name" => Field::Dropped,
+        "id" => Field::Judged(Shape::Text(Word::Id)),
+        "created_at" | "updated_at" => Field::Dropped,
+        _ => Field::Unknown,
+    }
+}
+
+/// The config's field: where the plugin isn't known, an object of any kind.
+pub fn config_field(plugin: Option<PluginName>) -> Field
+    ensures field { result ≡ config_field plugin }
+    ensures depth { depth_of result ≤ 2 }
+{
+    match plugin {
+        Some(name) => Field::Inside(Table::Config(name)),
+        None => Field::Judged(Shape::Object),
+    }
+}

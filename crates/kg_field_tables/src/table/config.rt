@@ -1,0 +1,228 @@
+//! The fields of plugins' configs.
+
+ghost use Rattle.std.specs.Prelude.{◌≡◌, ◌≤◌, codes};
+ghost use Rattle.kg_row_types.specs.declared.plugin.PluginName.TheVariants as plugin;
+ghost use Rattle.kg_field_tables.specs.FieldTables.{depth_of, field_of, header_word};
+
+use crate::constant::{Constant, Phrase};
+use crate::shape::Shape;
+use crate::table::{EditList, Field, Table};
+use kg_field_rules::word::{Choice, Word};
+use kg_row_types::plugin::PluginName;
+
+// The most that counts, sizes and times can be.
+const MOST: u64 = 1_000_000_000;
+
+/// The field of this name in the config of a plugin.
+pub fn config_table_field(plugin: PluginName, name: &str) -> Field
+    ensures field { result ≡ field_of (Table.Config plugin) name.now }
+    ensures depth { depth_of result ≤ 1 }
+{
+    match plugin {
+        PluginName::Cors => cors_field(name),
+        PluginName::KeyAuth => key_auth_field(name),
+        PluginName::BasicAuth => basic_auth_field(name),
+        PluginName::IpRestriction => ip_restriction_field(name),
+        PluginName::RequestSizeLimiting => size_limit_field(name),
+        PluginName::Acl => acl_config_field(name),
+        PluginName::RateLimiting => rate_limiting_field(name),
+        PluginName::RequestTransformer => request_transformer_field(name),
+        PluginName::ResponseTransformer => response_transformer_field(name),
+        PluginName::RequestTermination => termination_field(name),
+    }
+}
+
+fn cors_field(name: &str) -> Field
+    ensures field { result ≡ field_of (Table.Config plugin.Cors) name.now }
+    ensures depth { depth_of result ≡ 0 }
+{
+    match name {
+        "origins" | "headers" | "exposed_headers" => Field::Judged(Shape::Texts(Word::FreeText)),
+        "methods" => Field::Judged(Shape::Texts(Word::Method)),
+        "credentials" | "preflight_continue" => Field::Judged(Shape::Flag),
+        "max_age" => Field::Judged(Shape::Whole { low: 0, high: MOST }),
+        "private_network" => Field::Fixed(Constant::Bit(false)),
+        _ => Field::Unknown,
+    }
+}
+
+fn key_auth_field(name: &str) -> Field
+    ensures field { result ≡ field_of (Table.Config plugin.KeyAuth) name.now }
+    ensures depth { depth_of result ≡ 0 }
+{
+    match name {
+        "key_names" => Field::Judged(Shape::Texts(Word::Token)),
+        "key_in_header" | "key_in_query" | "hide_credentials" => Field::Judged(Shape::Flag),
+        "anonymous" => Field::Judged(Shape::Text(Word::Anonymous)),
+        "key_in_body" => Field::Fixed(Constant::Bit(false)),
+        "run_on_preflight" => Field::Fixed(Constant::Bit(true)),
+        "realm" => Field::Fixed(Constant::Nothing),
+        _ => Field::Unknown,
+    }
+}
+
+fn basic_auth_field(name: &str) -> Field
+    ensures field { result ≡ field_of (Table.Config plugin.BasicAuth) name.now }
+    ensures depth { depth_of result ≡ 0 }
+{
+    match name {
+        "hide_credentials" => Field::Judged(Shape::Flag),
+        "anonymous" => Field::Judged(Shape::Text(Word::Anonymous)),
+        "realm" => Field::Fixed(Constant::Phrase(Phrase::Service)),
+        _ => Field::Unknown,
+    }
+}
+
+fn ip_restriction_field(name: &str) -> Field
+    ensures field { result ≡ field_of (Table.Config plugin.IpRestriction) name.now }
+    ensures depth { depth_of result ≡ 0 }
+{
+    match name {
+        "allow" | "deny" => Field::Judged(Shape::Texts(Word::AddressBlock)),
+        "status" | "message" => Field::Fixed(Constant::Nothing),
+        _ => Field::Unknown,
+    }
+}
+
+fn size_limit_field(name: &str) -> Field
+    ensures field { result ≡ field_of (Table.Config plugin.RequestSizeLimiting) name.now }
+    ensures depth { depth_of result ≡ 0 }
+{
+    match name {
+        "allowed_payload_size" => Field::Judged(Shape::Whole { low: 1, high: MOST }),
+        "size_unit" => Field::Judged(Shape::OneOf(Choice::SizeUnit)),
+        "require_content_length" => Field::Fixed(Constant::Bit(false)),
+        _ => Field::Unknown,
+    }
+}
+
+fn acl_config_field(name: &str) -> Field
+    ensures field { result ≡ field_of (Table.Config plugin.Acl) name.now }
+    ensures depth { depth_of result ≡ 0 }
+{
+    match name {
+        "allow" | "deny" => Field::Judged(Shape::Texts(Word::FreeText)),
+        "hide_groups_header" => Field::Judged(Shape::Flag),
+        "always_use_authenticated_groups" | "include_consumer_groups" => {
+            Field::Fixed(Constant::Bit(false))
+        }
+        _ => Field::Unknown,
+    }
+}
+
+fn rate_limiting_field(name: &str) -> Field
+    ensures field { result ≡ field_of (Table.Config plugin.RateLimiting) name.now }
+    ensures depth { depth_of result ≡ 0 }
+{
+    match name {
+        "second" | "minute" | "hour" | "day" => {
+            Field::Judged(Shape::Whole { low: 1, high: MOST })
+        }
+        "month" | "year" => Field::Fixed(Constant::Nothing),
+        "limit_by" => Field::Judged(Shape::OneOf(Choice::LimitBy)),
+        "policy" => Field::Fixed(Constant::Phrase(Phrase::Local)),
+        "hide_client_headers" => Field::Judged(Shape::Flag),
+        "error_code" => Field::Fixed(Constant::Number(429)),
+        "error_message" => Field::Fixed(Constant::Phrase(Phrase::LimitExceeded)),
+        "fault_tolerant" => Field::Dropped,
+        _ => Field::Unknown,
+    }
+}
+
+fn request_transformer_field(name: &str) -> Field
+    ensures field { result ≡ field_of (Table.Config plugin.RequestTransformer) name.now }
+    ensures depth { depth_of result ≤ 1 }
+{
+    match name {
+        "remove" => Field::Inside(Table::RequestEdits(EditList::Remove)),
+        "rename" => Field::Inside(Table::RequestEdits(EditList::Rename)),
+        "replace" => Field::Inside(Table::RequestEdits(EditList::Replace)),
+        "add" => Field::Inside(Table::RequestEdits(EditList::Add)),
+        "append" => Field::Inside(Table::RequestEdits(EditList::Append)),
+        "http_method" => Field::Fixed(Constant::Nothing),
+        _ => Field::Unknown,
+    }
+}
+
+fn response_transformer_field(name: &str) -> Field
+    ensures field { result ≡ field_of (Table.Config plugin.ResponseTransformer) name.now }
+    ensures depth { depth_of result ≤ 1 }
+{
+    match name {
+        "remove" => Field::Inside(Table::ResponseEdits(EditList::Remove)),
+        "rename" => Field::Inside(Table::ResponseEdits(EditList::Rename)),
+        "replace" => Field::Inside(Table::ResponseEdits(EditList::Replace)),
+        "add" => Field::Inside(Table::ResponseEdits(EditList::Add)),
+        "append" => Field::Inside(Table::ResponseEdits(EditList::Append)),
+        _ => Field::Unknown,
+    }
+}
+
+fn termination_field(name: &str) -> Field
+    ensures field { result ≡ field_of (Table.Config plugin.RequestTermination) name.now }
+    ensures depth { depth_of result ≡ 0 }
+{
+    match name {
+        "status_code" => Field::Judged(Shape::Whole {
+            low: 200,
+            high: 599,
+        }),
+        "message" | "content_type" => Field::Judged(Shape::Text(Word::FreeText)),
+        "body" => Field::Judged(Shape::Text(Word::LongText)),
+        "trigger" => Field::Fixed(Constant::Nothing),
+        "echo" => Field::Fixed(Constant::Bit(false)),
+        _ => Field::Unknown,
+    }
+}
+
+fn header_word(edits: EditList) -> Word
+    ensures { result ≡ header_word edits }
+{
+    match edits {
+        EditList::Remove => Word::HeaderEdit,
+        EditList::Rename => Word::HeaderRename,
+        EditList::Replace => Word::HeaderEdit,
+        EditList::Add => Word::HeaderEdit,
+        EditList::Append => Word::HeaderEdit,
+    }
+}
+
+/// The field of this name in an object of lists of a request-transformer.
+pub fn request_edits_field(edits: EditList, name: &str) -> Field
+    ensures field { result ≡ field_of (Table.RequestEdits edits) name.now }
+    ensures depth { depth_of result ≡ 0 }
+{
+    match name {
+        "headers" => Field::Judged(Shape::Texts(header_word(edits))),
+        "querystring" => Field::Judged(Shape::Texts(Word::Edit)),
+        "body" => Field::Fixed(Constant::Nothing),
+        "uri" => uri_field(edits),
+        _ => Field::Unknown,
+    }
+}
+
+// Only a replacement can speak of the uri.
+fn uri_field(edits: EditList) -> Field
+    ensures field { result ≡ field_of (Table.RequestEdits edits) (codes "uri") }
+    ensures depth { depth_of result ≡ 0 }
+{
+    match edits {
+        EditList::Replace => Field::Fixed(Constant::Nothing),
+        EditList::Remove => Field::Unknown,
+        EditList::Rename => Field::Unknown,
+        EditList::Add => Field::Unknown,
+        EditList::Append => Field::Unknown,
+    }
+}
+
+/// The field of this name in an object of lists of a response-transformer.
+pub fn response_edits_field(edits: EditList, name: &str) -> Field
+    ensures field { result ≡ field_of (Table.ResponseEdits edits) name.now }
+    ensures depth { depth_of result ≡ 0 }
+{
+    match name {
+        "headers" => Field::Judged(Shape::Texts(header_word(edits))),
+        "json" => Field::Fixed(Constant::Nothing),
+        _ => Field::Unknown,
+    }
+}

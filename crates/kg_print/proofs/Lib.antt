@@ -1,0 +1,3 @@
+pub mod PhraseLemmas
+pub mod UpstreamLemmas
+pub mod WriteLemmas

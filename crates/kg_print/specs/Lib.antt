@@ -1,0 +1,4 @@
+pub mod Connection
+pub mod FieldLines
+pub mod ReplyText
+pub mod UpstreamText

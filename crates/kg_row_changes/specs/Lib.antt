@@ -1,0 +1,4 @@
+pub mod Allowed
+pub mod Candidates
+pub mod Claims
+pub mod ValidCommands

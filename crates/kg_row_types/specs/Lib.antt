@@ -1,0 +1,13 @@
+pub mod ConfigWords
+pub mod Entities
+pub mod Ids
+pub mod Lookups
+pub mod Patterns
+pub mod PluginNames
+pub mod RowChanges
+pub mod RowLists
+pub mod StoredPassword
+pub mod Tables
+pub mod ValidRows
+pub mod Values
+pub mod Words

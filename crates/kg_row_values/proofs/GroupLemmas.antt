@@ -1,0 +1,145 @@
+-- The groups of a consumer, told by what each list has of the other.
+use Rattle.std.proofs.Common.{◌≡◌, ℕ, Bool, true, false, cond, not, ◌||◌, ◌&&◌, ◌==◌, List, [], ◌∷◌, map, filter, All, refl, sym, ap, ◌∙◌, is_eq, nat_cmp}
+use Rattle.std.proofs.lemmas.Cmp.{nat_list_cmp_total}
+use Rattle.std.proofs.lemmas.List.Elements.{All-nil, All-cons}
+use Rattle.std.proofs.lemmas.Map.Lookups.{exact_bytes}
+use Rattle.std.proofs.lemmas.Map.Text.{is_eq-slice_cmp}
+use Rattle.std.specs.Cmp.Lexicographic.{slice_cmp}
+use Rattle.std.specs.List.{list_any, list_all}
+use Rattle.std.specs.List.Sorted.{IsStrictlySortedBy}
+use Rattle.std.specs.Str.{bytes_eq}
+use Rattle.kg_entities.specs.OwnerIndexes.{AreRowsOf}
+use Rattle.kg_row_types.specs.RowLists.{RowLists}
+use Rattle.kg_row_types.specs.ValidRows.{same_membership}
+use Rattle.kg_row_types.specs.declared.consumer.AclRow.{AclRow}
+use Rattle.kg_row_types.specs.declared.key.Key.{Key}
+use Rattle.kg_row_types.specs.declared.key.Key.TheVariants.{Cred, Basic, Consumer, Named, Acls}
+use Rattle.kg_row_values.specs.ByteOrder.{IsInByteOrder}
+use Rattle.kg_row_values.specs.Values.{groups_of, value_of}
+use Rattle.kg_row_values.specs.Watching.{IsOrderly, watched_at}
+use Rattle.kg_row_values.specs.declared.watch.Watched.{Watched}
+use Rattle.kg_row_values.proofs.SetLemmas.{both, sorted_fold, has_fold, same_sorted, included, includes_itself}
+
+-- the groups of a consumer's rows
+abbrev groups_in : ℕ → List AclRow → List (List ℕ)
+groups_in consumer acls = map (λ row. row.group) (filter (λ row. row.consumer == consumer) acls)
+
+-- the text is one of them, by the order of bytes
+abbrev has : List ℕ → List (List ℕ) → Bool
+has t xs = list_any (λ x. is_eq (slice_cmp nat_cmp t x)) xs
+
+same_has : (t : List ℕ) (xs : List (List ℕ)) → list_any (bytes_eq t) xs ≡ has t xs
+same_has t [] = refl
+same_has t (x ∷ xs) =
+    ap (λ b. b || list_any (bytes_eq t) xs) (sym (is_eq-slice_cmp t x)) ∙ ap (λ b. is_eq (slice_cmp nat_cmp t x) || b) (same_has t xs)
+
+all_same : {X : Type 0} (p q : X → Bool) → ((x : X) → p x ≡ q x) → (xs : List X) → list_all p xs ≡ list_all q xs
+all_same p q same [] = refl
+all_same p q same (x ∷ xs) = ap (λ b. b && list_all p xs) (same x) ∙ ap (λ b. q x && b) (all_same p q same xs)
+
+all_rows : (p : List ℕ → Bool) (consumer : ℕ) (acls : List AclRow)
+    → list_all (λ row. not (row.consumer == consumer) || p row.group) acls ≡ list_all p (groups_in consumer acls)
+all_rows p consumer [] = refl
+all_rows p consumer (a ∷ acls) =
+    (elim (a.consumer == consumer) as (λ b. ((not b || p a.group) && list_all (λ row. not (row.consumer == consumer) || p row.group) acls)
+    ≡ list_all p (map (λ row. row.group) (cond {A = List AclRow} b (a ∷ filter (λ row. row.consumer == consumer) acls) (filter (λ row. row.consumer == consumer) acls))))
+    [ true ↦ ap (λ b. p a.group && b) (all_rows p consumer acls) | false ↦ all_rows p consumer acls ])
+
+any_rows : (p : List ℕ → Bool) (consumer : ℕ) (acls : List AclRow)
+    → list_any (λ row. row.consumer == consumer && p row.group) acls ≡ list_any p (groups_in consumer acls)
+any_rows p consumer [] = refl
+any_rows p consumer (a ∷ acls) =
+    (elim (a.consumer == consumer) as (λ b. ((b && p a.group) || list_any (λ row. row.consumer == consumer && p row.group) acls)
+    ≡ list_any p (map (λ row. row.group) (cond {A = List AclRow} b (a ∷ filter (λ row. row.consumer == consumer) acls) (filter (λ row. row.consumer == consumer) acls))))
+    [ true ↦ ap (λ b. p a.group || b) (any_rows p consumer acls) | false ↦ any_rows p consumer acls ])
+
+module _ (consumer : ℕ) (acls : List AclRow) (groups : List (List ℕ)) where
+  -- each group of the consumer is among them
+  abbrev pub among : Bool
+  among = list_all (λ row. not (row.consumer == consumer) || list_any (bytes_eq row.group) groups) acls
+
+  -- each of them is a group of the consumer
+  abbrev pub each : Bool
+  each = list_all (λ group. list_any (λ row. row.consumer == consumer && bytes_eq group row.group) acls) groups
+
+  among_is : among ≡ list_all (λ g. has g groups) (groups_in consumer acls)
+  among_is = all_rows (λ g. list_any (bytes_eq g) groups) consumer acls ∙ all_same (λ g. list_any (bytes_eq g) groups) (λ g. has g groups) (λ g. same_has g groups) (groups_in consumer acls)
+
+  each_is : each ≡ list_all (λ g. has g (groups_in consumer acls)) groups
+  each_is =
+      all_same (λ group. list_any (λ row. row.consumer == consumer && bytes_eq group row.group) acls) (λ g. has g (groups_in consumer acls))
+      (λ g. any_rows (bytes_eq g) consumer acls ∙ same_has g (groups_in consumer acls)) groups
+
+  -- a text is in the set exactly where it is a group
+  in_set : (t : List ℕ) → has t (groups_of consumer acls) ≡ has t (groups_in consumer acls)
+  in_set t = has_fold nat_list_cmp_total exact_bytes t (groups_in consumer acls) []
+
+  pub groups_same : IsInByteOrder groups → among ≡ true → each ≡ true → groups_of consumer acls ≡ groups
+  unfolding IsStrictlySortedBy
+  groups_same sorted one other =
+      same_sorted nat_list_cmp_total exact_bytes (groups_of consumer acls) groups
+      (sorted_fold nat_list_cmp_total exact_bytes (groups_in consumer acls) [] (tt {0})) sorted
+      (λ t. in_set t ∙ both (has t (groups_in consumer acls)) (has t groups)
+      (included nat_list_cmp_total exact_bytes (groups_in consumer acls) groups (sym among_is ∙ one) t)
+      (included nat_list_cmp_total exact_bytes groups (groups_in consumer acls) (sym each_is ∙ other) t))
+
+  pub groups_among : groups_of consumer acls ≡ groups → among ≡ true
+  groups_among same =
+      among_is ∙ includes_itself nat_list_cmp_total exact_bytes (groups_in consumer acls) groups
+      (λ t there. ap (has t) (sym same) ∙ in_set t ∙ there)
+
+  pub groups_each : groups_of consumer acls ≡ groups → each ≡ true
+  groups_each same =
+      each_is ∙ includes_itself nat_list_cmp_total exact_bytes groups (groups_in consumer acls)
+      (λ t there. sym (in_set t) ∙ ap (has t) same ∙ there)
+
+-- the groups of a consumer stand in byte order
+pub groups_ordered : (consumer : ℕ) (acls : List AclRow) → IsInByteOrder (groups_of consumer acls)
+unfolding IsStrictlySortedBy
+groups_ordered consumer acls = sorted_fold nat_list_cmp_total exact_bytes (groups_in consumer acls) [] (tt {0})
+
+any_same : {X : Type 0} (p q : X → Bool) → ((x : X) → p x ≡ q x) → (xs : List X) → list_any p xs ≡ list_any q xs
+any_same p q same [] = refl
+any_same p q same (x ∷ xs) = ap (λ b. b || list_any p xs) (same x) ∙ ap (λ b. q x || b) (any_same p q same xs)
+
+and_twice : (a b : Bool) → (a && (a && b)) ≡ (a && b)
+and_twice true b = refl
+and_twice false b = refl
+
+-- the rows of a consumer tell its groups
+pub groups_alike : (consumer : ℕ) (own acls : List AclRow) → AreRowsOf consumer own acls → groups_of consumer own ≡ groups_of consumer acls
+groups_alike consumer own acls are =
+    same_sorted nat_list_cmp_total exact_bytes (groups_of consumer own) (groups_of consumer acls) (groups_ordered consumer own) (groups_ordered consumer acls)
+    (λ t. in_set consumer own [] t
+    ∙ sym (any_rows (λ x. is_eq (slice_cmp nat_cmp t x)) consumer own)
+    ∙ are (λ row. row.consumer == consumer && is_eq (slice_cmp nat_cmp t row.group))
+    ∙ any_same (λ row. row.consumer == consumer && (row.consumer == consumer && is_eq (slice_cmp nat_cmp t row.group))) (λ row. row.consumer == consumer && is_eq (slice_cmp nat_cmp t row.group))
+    (λ row. and_twice (row.consumer == consumer) (is_eq (slice_cmp nat_cmp t row.group))) acls
+    ∙ any_rows (λ x. is_eq (slice_cmp nat_cmp t x)) consumer acls
+    ∙ sym (in_set consumer acls [] t))
+
+-- a membership that another row has stands among the rows of its consumer
+pub taken_alike : (test : AclRow → Bool) (membership : AclRow) (own acls : List AclRow) → AreRowsOf membership.consumer own acls
+    → list_any (λ other. test other && same_membership other membership) own ≡ list_any (λ other. test other && same_membership other membership) acls
+taken_alike test membership own acls are =
+    are (λ other. test other && same_membership other membership)
+    ∙ any_same (λ other. other.consumer == membership.consumer && (test other && same_membership other membership)) (λ other. test other && same_membership other membership)
+    (λ other. by (other.consumer == membership.consumer) (test other) (bytes_eq other.group membership.group)) acls
+  where
+    by : (a b c : Bool) → (a && (b && (a && c))) ≡ (b && (a && c))
+    by true b c = refl
+    by false true c = refl
+    by false false c = refl
+
+-- the values of keys are orderly
+orderly : (rows : RowLists) (k : Key) → IsOrderly (value_of rows k)
+orderly rows (Cred t) = tt {0}
+orderly rows (Basic t) = tt {0}
+orderly rows (Consumer i) = tt {0}
+orderly rows (Named t) = tt {0}
+orderly rows (Acls i) = groups_ordered i rows.acls
+
+pub all_orderly : (rows : RowLists) (ks : List Key) → All (λ w. IsOrderly w.before) (map (watched_at rows) ks)
+all_orderly rows [] = All-nil (λ (w : Watched). IsOrderly w.before)
+all_orderly rows (k ∷ ks) =
+    All-cons (λ (w : Watched). IsOrderly w.before) (watched_at rows k) (map (watched_at rows) ks) (orderly rows k) (all_orderly rows ks)

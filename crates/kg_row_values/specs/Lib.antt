@@ -1,0 +1,5 @@
+pub mod ByteOrder
+pub mod Changes
+pub mod Rows
+pub mod Values
+pub mod Watching

@@ -1,0 +1,130 @@
+-- Rows as objects of JSON (Kong Admin API, the entities' pages). What isn't set is null. A member that
+-- has one value only is left out, but for a service's protocol and a route's path handling, and what is
+-- kept of a password stands in its place: this choice is the project's own.
+use Rattle.std.specs.Prelude.{ℕ, ◌==◌, Bool, List, [], ◌∷◌, fold, length, codes, if◌then◌else◌}
+use Rattle.kg_row_types.specs.PluginNames.{plugin_of, plugin_text}
+use Rattle.kg_row_types.specs.declared.consumer.AclRow.{AclRow}
+use Rattle.kg_row_types.specs.declared.consumer.BasicCred.{BasicCred}
+use Rattle.kg_row_types.specs.declared.consumer.Consumer.{Consumer}
+use Rattle.kg_row_types.specs.declared.consumer.KeyCred.{KeyCred}
+use Rattle.kg_row_types.specs.declared.entity.Entity.{Entity}
+use Rattle.kg_row_types.specs.declared.entity.Entity.TheVariants as row_of
+use Rattle.kg_row_types.specs.declared.plugin.PluginRow.{PluginRow}
+use Rattle.kg_row_types.specs.declared.route.HeaderTest.{HeaderTest}
+use Rattle.kg_row_types.specs.declared.route.Route.{Route}
+use Rattle.kg_row_types.specs.declared.service.Service.{Service}
+use Rattle.serde_json.specs.Data.{Data, null, boolean, number, string, object, Members, no_members, put}
+use Rattle.serde_json.specs.Find.{of_integer}
+use Rattle.kg_shown_rows.specs.ShownConfigs.{shown_config}
+use Rattle.kg_shown_rows.specs.ShownParts.{members_of, object_of, shown_id, shown_link, shown_number, shown_reference, shown_text, shown_texts}
+
+abbrev pub shown_service : Service → Data
+shown_service service = object_of (
+    (codes "created_at", shown_number service.created_at)
+    ∷ (codes "enabled", boolean service.enabled)
+    ∷ (codes "host", string service.host)
+    ∷ (codes "id", shown_id service.id)
+    ∷ (codes "name", shown_text service.name)
+    ∷ (codes "path", shown_text service.path)
+    ∷ (codes "port", shown_number service.port)
+    ∷ (codes "protocol", string (codes "http"))
+    ∷ (codes "retries", shown_number service.retries)
+    ∷ (codes "updated_at", shown_number service.updated_at)
+    ∷ [])
+
+-- the members with one more: the values that a route asks for, under the name of their header
+abbrev pub with_values : Members → HeaderTest → Members
+with_values members test = put test.name (shown_texts test.values) members
+
+abbrev pub shown_headers : List HeaderTest → Data
+shown_headers tests = if length tests == 0 then null else object (fold with_values no_members tests)
+
+-- http, and https where the route names it
+abbrev pub protocols_of : Bool → List (List ℕ)
+protocols_of https = codes "http" ∷ (if https then codes "https" ∷ [] else [])
+
+-- the members that a request is tested for
+abbrev pub shown_tests : Route → Members
+shown_tests route = members_of (
+    (codes "headers", shown_headers route.headers)
+    ∷ (codes "hosts", shown_texts route.hosts)
+    ∷ (codes "methods", shown_texts route.methods)
+    ∷ (codes "paths", shown_texts route.paths)
+    ∷ (codes "protocols", shown_texts (protocols_of route.https))
+    ∷ (codes "regex_priority", number (of_integer route.regex_priority))
+    ∷ [])
+
+abbrev pub shown_route : Route → Data
+shown_route route = object_of (
+    (codes "created_at", shown_number route.created_at)
+    ∷ (codes "headers", shown_headers route.headers)
+    ∷ (codes "hosts", shown_texts route.hosts)
+    ∷ (codes "id", shown_id route.id)
+    ∷ (codes "methods", shown_texts route.methods)
+    ∷ (codes "name", shown_text route.name)
+    ∷ (codes "path_handling", string (codes "v0"))
+    ∷ (codes "paths", shown_texts route.paths)
+    ∷ (codes "preserve_host", boolean route.preserve_host)
+    ∷ (codes "protocols", shown_texts (protocols_of route.https))
+    ∷ (codes "regex_priority", number (of_integer route.regex_priority))
+    ∷ (codes "service", shown_reference route.service)
+    ∷ (codes "strip_path", boolean route.strip_path)
+    ∷ (codes "updated_at", shown_number route.updated_at)
+    ∷ [])
+
+abbrev pub shown_consumer : Consumer → Data
+shown_consumer consumer = object_of (
+    (codes "created_at", shown_number consumer.created_at)
+    ∷ (codes "custom_id", shown_text consumer.custom_id)
+    ∷ (codes "id", shown_id consumer.id)
+    ∷ (codes "updated_at", shown_number consumer.updated_at)
+    ∷ (codes "username", shown_text consumer.username)
+    ∷ [])
+
+abbrev pub shown_key : KeyCred → Data
+shown_key credential = object_of (
+    (codes "consumer", shown_reference credential.consumer)
+    ∷ (codes "created_at", shown_number credential.created_at)
+    ∷ (codes "id", shown_id credential.id)
+    ∷ (codes "key", string credential.key)
+    ∷ [])
+
+-- the password is shown as what is kept of it
+abbrev pub shown_basic : BasicCred → Data
+shown_basic credential = object_of (
+    (codes "consumer", shown_reference credential.consumer)
+    ∷ (codes "created_at", shown_number credential.created_at)
+    ∷ (codes "id", shown_id credential.id)
+    ∷ (codes "password", string credential.hash)
+    ∷ (codes "username", string credential.username)
+    ∷ [])
+
+abbrev pub shown_acl : AclRow → Data
+shown_acl row = object_of (
+    (codes "consumer", shown_reference row.consumer)
+    ∷ (codes "created_at", shown_number row.created_at)
+    ∷ (codes "group", string row.group)
+    ∷ (codes "id", shown_id row.id)
+    ∷ [])
+
+abbrev pub shown_plugin : PluginRow → Data
+shown_plugin row = object_of (
+    (codes "config", shown_config row.config)
+    ∷ (codes "consumer", shown_link row.scope.consumer)
+    ∷ (codes "created_at", shown_number row.created_at)
+    ∷ (codes "enabled", boolean row.enabled)
+    ∷ (codes "id", shown_id row.id)
+    ∷ (codes "name", string (plugin_text (plugin_of row.config)))
+    ∷ (codes "route", shown_link row.scope.route)
+    ∷ (codes "service", shown_link row.scope.service)
+    ∷ [])
+
+-- the row as an object
+abbrev pub shown : Entity → Data
+shown (row_of.Service service) = shown_service service
+shown (row_of.Route route) = shown_route route
+shown (row_of.Consumer consumer) = shown_consumer consumer
+shown (row_of.KeyCred credential) = shown_key credential
+shown (row_of.BasicCred credential) = shown_basic credential
+shown (row_of.Acl row) = shown_acl row
+shown (row_of.Plugin row) = shown_plugin row

@@ -1,0 +1,4 @@
+//! Rows as objects of JSON.
+#![tactic(auto)]
+
+pub mod show;

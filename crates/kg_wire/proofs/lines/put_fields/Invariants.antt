@@ -1,6 +1,0 @@
-use Rattle.std.proofs.Common.{◌≡◌, ◌++◌, take}
-use Rattle.kg_wire.specs.FieldLines.{field_lines}
-use Rattle.kg_wire.proofs.lines.put_fields.Given as goal
-
-abbrev pub invariant-loop-field : goal.invariant-loop-field
-invariant-loop-field l = l.out ≡ l.initial.out ++ field_lines (take l.field-index l.field-items)
