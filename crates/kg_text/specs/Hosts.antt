@@ -1,22 +1,25 @@
 -- The host that the value of a Host field tells (RFC 9110, section 7.2), as hosts are compared:
 -- without a port, and in lower case (RFC 3986, sections 3.2.2 and 3.2.3).
-use Rattle.std.specs.Prelude.{ℕ, ◌-◌, Bool, ◌&&◌, ◌||◌, ◌==◌, nat_lt, List, length, take, slice_index, codes, if◌then◌else◌}
-use Rattle.std.specs.List.{list_any, list_all, suffix_len}
+use Rattle.std.specs.Prelude.{ℕ, Bool, ◌&&◌, ◌||◌, ◌==◌, nat_lt, nat_le, List, length, reverse, codes, if◌then◌else◌}
+use Rattle.std.specs.List.{list_any, list_all, before_first, before_last}
 use Rattle.std.specs.Char.{is_ascii_digit, is_ascii_alphanumeric}
 use Rattle.std.specs.Str.{str_to_ascii_lowercase}
 
 abbrev pub colon : ℕ
 colon = 0x3A
 
--- how many bytes stand before the digits at the end
-abbrev pub before_digits : List ℕ → ℕ
-before_digits value = length value - suffix_len is_ascii_digit value
+abbrev pub is_colon : ℕ → Bool
+is_colon b = b == colon
 
--- the value without its last colon and the digits behind it; they may be none
+-- what stands behind the last byte that passes, or all where none does
+abbrev pub behind_last : (ℕ → Bool) → List ℕ → List ℕ
+behind_last p bytes = reverse (before_first p (reverse bytes))
+
+-- the value without a port: what stands before its last colon, where nothing but digits stands behind it
 abbrev pub host_part : List ℕ → List ℕ
 host_part value =
-    if nat_lt 0 (before_digits value) && slice_index value (before_digits value - 1) == colon
-    then take (before_digits value - 1) value
+    if list_any is_colon value && list_all is_ascii_digit (behind_last is_colon value)
+    then before_last is_colon value
     else value
 
 -- the host in lower case
@@ -27,6 +30,9 @@ host_of value = str_to_ascii_lowercase (host_part value)
 abbrev pub is_host_byte : ℕ → Bool
 is_host_byte b = is_ascii_alphanumeric b || list_any (λ c. c == b) (codes ".-_")
 
+abbrev pub has_host_form : List ℕ → Bool
+has_host_form text = list_all is_host_byte text
+
 -- the host of a service: 1 to 255 such bytes (this project's own)
 abbrev pub is_host : List ℕ → Bool
-is_host host = nat_lt 0 (length host) && nat_lt (length host) 256 && list_all is_host_byte host
+is_host text = (nat_lt 0 (length text) && nat_le (length text) 255) && has_host_form text

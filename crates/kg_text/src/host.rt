@@ -1,10 +1,10 @@
 //! Hosts (RFC 9110, section 7.2; RFC 3986, section 3.2.2).
 
 ghost use Rattle.std.specs.Prelude.{◌≡◌, ◌≤◌, ◌-◌, IfOk, length};
-ghost use Rattle.std.specs.List.{list_all, suffix_len};
+ghost use Rattle.std.specs.List.{suffix_len};
 ghost use Rattle.std.specs.Char.{is_ascii_digit};
 ghost use Rattle.std.specs.Str.{str_to_ascii_lowercase};
-ghost use Rattle.kg_text.specs.Hosts.{host_part, host_of, is_host_byte, is_host};
+ghost use Rattle.kg_text.specs.Hosts.{has_host_form, host_part, host_of, is_host_byte, is_host};
 
 use crate::bytes::Bytes;
 use crate::error::NoMemory;
@@ -46,16 +46,18 @@ fn digits_len(value: &[u8]) -> usize
 pub fn is_host(host: &[u8]) -> bool
     ensures { result ≡ is_host host.now }
 {
-    !host.is_empty() && host.len() < 256 && are_host_bytes(host)
+    !host.is_empty() && host.len() <= 255 && has_host_form(host)
 }
 
-fn are_host_bytes(host: &[u8]) -> bool
-    ensures { result ≡ list_all is_host_byte host.now }
+/// Are these letters, digits, `.`, `-` and `_` alone?
+pub fn has_host_form(text: &[u8]) -> bool
+    ensures { result ≡ has_host_form text.now }
 {
-    host.iter().all(|b| is_host_byte(*b))
+    text.iter().all(|b| is_host_byte(*b))
 }
 
-fn is_host_byte(b: u8) -> bool
+/// A letter, a digit, `.`, `-` or `_`.
+pub fn is_host_byte(b: u8) -> bool
     ensures { result ≡ is_host_byte b }
 {
     b.is_ascii_alphanumeric() || b".-_".contains(&b)

@@ -5,6 +5,7 @@
 #![tactic(auto)]
 
 mod bytes;
+mod case;
 mod clone;
 mod copy;
 mod error;
@@ -17,15 +18,18 @@ mod path;
 mod query;
 mod segment;
 mod text;
+mod token;
 
 pub use crate::bytes::Bytes;
+pub use crate::case::is_lower_case_of;
 pub use crate::clone::TryClone;
 pub use crate::copy::CopyKey;
 pub use crate::error::{NoMemory, TextError};
-pub use crate::host::{host_of, host_part, is_host};
+pub use crate::host::{has_host_form, host_of, host_part, is_host, is_host_byte};
 pub use crate::list::List;
 pub use crate::name::Name;
 pub use crate::pair::Pair;
 pub use crate::path::{into_normal_form, is_normal, is_path, normalise};
 pub use crate::query::{query_pairs, query_text};
 pub use crate::text::Text;
+pub use crate::token::{is_tchar, is_token, token_len};

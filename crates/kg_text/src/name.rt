@@ -1,14 +1,15 @@
 //! The name of a header field (RFC 9110, section 5.1).
 
 ghost use Rattle.std.specs.Prelude.{◌≡◌, ◌↔◌, IsTrue, IfOk, length, nat_eq};
-ghost use Rattle.std.specs.List.{prefix_len};
 ghost use Rattle.std.specs.Str.{str_to_ascii_lowercase};
 ghost use Rattle.std.specs.Cmp.Lexicographic.{pointwise, nat_list_eq_equiv};
 ghost use Rattle.std.specs.Cmp.{partial_equiv_from_equiv};
-ghost use Rattle.kg_text.specs.Names.{is_tchar, is_token, name_of};
+ghost use Rattle.kg_text.specs.Names.{is_token, name_of};
 ghost use Rattle.kg_text.specs.Reading.{Gives};
 
+use crate::case::is_lower_case_of;
 use crate::error::{NoMemory, TextError};
+use crate::token::token_len;
 use std::alloc::Global;
 use std::marker::Model;
 use std::str;
@@ -98,28 +99,4 @@ impl PartialEq for Name {
 
 impl Eq for Name {
     ghost laws = { nat_list_eq_equiv };
-}
-
-// How many bytes from the front may stand in a token.
-fn token_len(raw: &[u8]) -> usize
-    ensures { result ≡ prefix_len is_tchar raw.now }
-{
-    raw.iter().take_while(|b| is_tchar(**b)).count()
-}
-
-// A tchar: a letter, a digit or one of fifteen marks.
-fn is_tchar(b: u8) -> bool
-    ensures { result ≡ is_tchar b }
-{
-    b.is_ascii_alphanumeric() || b"!#$%&'*+-.^_`|~".contains(&b)
-}
-
-fn is_lower_case_of(lower: &[u8], raw: &[u8]) -> bool
-    ensures { IsTrue result ↔ (lower.now ≡ str_to_ascii_lowercase raw.now) }
-{
-    lower.len() == raw.len()
-        && lower
-            .iter()
-            .zip(raw)
-            .all(|(a, b)| *a == b.to_ascii_lowercase())
 }
