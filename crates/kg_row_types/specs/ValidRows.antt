@@ -6,7 +6,9 @@ use Rattle.std.specs.List.Sorted.{IsStrictlySortedBy}
 use Rattle.std.specs.Cmp.Lexicographic.{slice_cmp}
 use Rattle.std.specs.Ordering.{nat_cmp}
 use Rattle.std.specs.Str.{bytes_eq}
+use Rattle.kg_text.specs.Names.{IsName}
 use Rattle.kg_row_types.specs.ConfigWords.{is_key_name, is_ipv4_block, is_edit, is_header_edit, is_header_rename}
+use Rattle.kg_row_types.specs.Ids.{IsId}
 use Rattle.kg_row_types.specs.PluginNames.{plugin_of, same_plugin}
 use Rattle.kg_row_types.specs.RowLists.{RowLists}
 use Rattle.kg_row_types.specs.Words.{is_name, is_free_text, is_text_within, is_username, is_printed_if_id, is_hash, is_host, is_kept_route_host, is_normal_path, is_route_path, is_method, is_list_of, is_set}
@@ -38,20 +40,24 @@ use Rattle.kg_row_types.specs.declared.service.Service.{Service}
 -- ---- rows that route requests
 
 pub record IsValidService (service : Service) : Type 0 where
+  pub id : IsId service.id
   pub name : IfSome service.name (λ name. IsTrue (is_name name))
   pub host : IsTrue (is_host service.host)
   pub port : (1 ≤ service.port) × (service.port ≤ 65535)
   pub path : IfSome service.path (λ path. IsTrue (is_normal_path path))
   pub retries : service.retries ≤ 32767
 
--- a header other than host, with at least one value
+-- a header name other than host, as it is kept, with at least one value
 pub record IsValidHeaderTest (test : HeaderTest) : Type 0 where
+  pub form : IsName test.name
   pub name : IsTrue (not (bytes_eq test.name (codes "host")))
   pub values : IsTrue (is_list_of is_free_text test.values && is_set test.values)
 
 -- the headers stand in byte order of their names, each once; something is set that a request can fit
 pub record IsValidRoute (route : Route) : Type 0 where
+  pub id : IsId route.id
   pub name : IfSome route.name (λ name. IsTrue (is_name name))
+  pub service : IsId route.service
   pub methods : IsTrue (is_list_of is_method route.methods)
   pub hosts : IsTrue (is_list_of is_kept_route_host route.hosts)
   pub paths : IsTrue (is_list_of is_route_path route.paths)
@@ -64,18 +70,25 @@ pub record IsValidRoute (route : Route) : Type 0 where
 -- ---- consumers and their credentials
 
 pub record IsValidConsumer (consumer : Consumer) : Type 0 where
+  pub id : IsId consumer.id
   pub username : IfSome consumer.username (λ name. IsTrue (is_username name))
   pub custom_id : IfSome consumer.custom_id (λ text. IsTrue (is_free_text text))
   pub known : IsTrue (is_some consumer.username || is_some consumer.custom_id)
 
 pub record IsValidKeyCred (cred : KeyCred) : Type 0 where
+  pub id : IsId cred.id
+  pub consumer : IsId cred.consumer
   pub key : IsTrue (is_free_text cred.key)
 
 pub record IsValidBasicCred (cred : BasicCred) : Type 0 where
+  pub id : IsId cred.id
+  pub consumer : IsId cred.consumer
   pub username : IsTrue (is_free_text cred.username)
   pub hash : IsTrue (is_hash cred.hash)
 
 pub record IsValidAcl (membership : AclRow) : Type 0 where
+  pub id : IsId membership.id
+  pub consumer : IsId membership.consumer
   pub group : IsTrue (is_free_text membership.group)
 
 -- ---- configs of plugins
@@ -176,7 +189,15 @@ is_for_no_consumer (of_config.BasicAuth config) = true
 is_for_no_consumer (of_config.Acl config) = true
 is_for_no_consumer _ = false
 
+-- each part that is set is an id
+pub record IsValidScope (scope : Scope) : Type 0 where
+  pub service : IfSome scope.service IsId
+  pub route : IfSome scope.route IsId
+  pub consumer : IfSome scope.consumer IsId
+
 pub record IsValidPlugin (plugin : PluginRow) : Type 0 where
+  pub id : IsId plugin.id
+  pub scope : IsValidScope plugin.scope
   pub config : IsValidConfig plugin.config
   pub consumer : IsTrue (is_none plugin.scope.consumer || not (is_for_no_consumer plugin.config))
 
