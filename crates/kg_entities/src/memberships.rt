@@ -14,7 +14,7 @@ use std::alloc::Global;
 use std::marker::Model;
 
 /// The memberships. Contracts see them as a list in the order of insertion.
-#[derive(Debug, Drop)]
+#[derive(Drop)]
 pub struct Memberships {
     table: RowTable<AclRow>,
     owners: OwnerIndex,

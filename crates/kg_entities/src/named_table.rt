@@ -16,7 +16,7 @@ use std::marker::Model;
 
 /// The rows of one kind. Contracts see them as a list in the order of insertion. A row is found by its
 /// name or its alias without a search, unless several rows have had that text at the same time.
-#[derive(Debug, Drop)]
+#[derive(Drop)]
 pub struct NamedTable<T: Named> {
     table: RowTable<T>,
     names: TextIndex,

@@ -10,7 +10,7 @@ use kg_text::{List, NoMemory, TryClone};
 use std::alloc::Global;
 
 /// For each consumer a copy of each of its rows, in any order.
-#[derive(Debug, Drop)]
+#[derive(Drop)]
 pub(crate) struct OwnerIndex {
     pub(crate) lists: IndexMap<Id, List<AclRow>>,
 }

@@ -24,7 +24,7 @@ use std::alloc::Global;
 use std::marker::Model;
 
 /// All rows. Contracts see a list of each kind, in the order of insertion.
-#[derive(Debug, Drop)]
+#[derive(Drop)]
 pub struct Rows {
     services: NamedTable<Service>,
     routes: NamedTable<Route>,

@@ -16,7 +16,7 @@ use std::alloc::Global;
 use std::marker::Model;
 
 /// The rows of one kind. Contracts see them as a list in the order of insertion.
-#[derive(Debug, Drop)]
+#[derive(Drop)]
 pub struct RowTable<T: Row> {
     rows: IndexMap<Id, T>,
 }

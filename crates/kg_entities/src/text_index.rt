@@ -14,7 +14,7 @@ use kg_text::{NoMemory, Text};
 use std::alloc::Global;
 
 /// Which rows have a text.
-#[derive(Clone, Copy, Debug, Drop)]
+#[derive(Clone, Copy, Drop)]
 pub(crate) enum Holder {
     /// The row with this id, and no other.
     Only(Id),
@@ -23,7 +23,7 @@ pub(crate) enum Holder {
 }
 
 /// For each text of some row its holder. No row has a text that isn't there.
-#[derive(Debug, Drop)]
+#[derive(Drop)]
 pub(crate) struct TextIndex {
     pub(crate) holders: IndexMap<Text, Holder>,
 }

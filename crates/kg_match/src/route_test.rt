@@ -19,7 +19,7 @@ use std::alloc::Global;
 use std::marker::Model;
 
 /// A route, ready to be tested against requests. Contracts see the route.
-#[derive(Debug, Drop)]
+#[derive(Drop)]
 pub struct RouteTest {
     route: Route,
     patterns: Vec<PathPattern>,

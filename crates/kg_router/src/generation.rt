@@ -18,7 +18,7 @@ use std::alloc::Global;
 use std::marker::Model;
 
 /// A route that takes a request, with its service.
-#[derive(Clone, Copy, Debug)]
+#[derive(Clone, Copy)]
 pub struct Choice<'a> {
     pub route: &'a Route,
     pub service: &'a Service,
@@ -28,7 +28,7 @@ pub struct Choice<'a> {
 
 /// The services and routes of one revision of the configuration, ready to be searched. Contracts
 /// see the revision and the rows that it was built from.
-#[derive(Debug, Drop)]
+#[derive(Drop)]
 pub struct RouterGen {
     rev: u64,
     services: List<Service>,

@@ -20,7 +20,7 @@ use std::alloc::Global;
 
 /// What a body is finished over. `now` is the clock in milliseconds, a row's own times are in
 /// seconds.
-#[derive(Clone, Copy, Debug)]
+#[derive(Clone, Copy)]
 pub enum Base<'a> {
     /// A row that isn't there yet. It has this id, where the body names no other.
     New { id: Id, now: u64 },

@@ -8,7 +8,7 @@ use kg_text::{List, NoMemory, Text, TryClone};
 use std::alloc::Global;
 
 /// The config of one plugin.
-#[derive(Debug, PartialEq, Drop)]
+#[derive(Drop)]
 pub enum Config {
     Cors(Cors),
     KeyAuth(KeyAuth),
@@ -68,7 +68,7 @@ impl TryClone for Config {
 }
 
 /// Which other origins may read the replies (Kong's plugin cors).
-#[derive(Debug, PartialEq, Drop)]
+#[derive(Drop)]
 pub struct Cors {
     /// Not set, it counts as `*`.
     pub origins: List<Text>,
@@ -97,7 +97,7 @@ impl TryClone for Cors {
 }
 
 /// Where a request's key stands (Kong's plugin key-auth).
-#[derive(Debug, PartialEq, Drop)]
+#[derive(Drop)]
 pub struct KeyAuth {
     /// The names of headers and of query arguments, in the order in which they are tried.
     pub key_names: List<Text>,
@@ -121,7 +121,7 @@ impl TryClone for KeyAuth {
 }
 
 /// How names and passwords are asked for (Kong's plugin basic-auth).
-#[derive(Debug, PartialEq, Drop)]
+#[derive(Drop)]
 pub struct BasicAuth {
     pub hide_credentials: bool,
     /// The id or username of the consumer for requests that fail.
@@ -138,7 +138,7 @@ impl TryClone for BasicAuth {
 }
 
 /// Which addresses may send requests (Kong's plugin ip-restriction): IPv4 addresses or blocks.
-#[derive(Debug, PartialEq, Drop)]
+#[derive(Drop)]
 pub struct IpRestriction {
     pub allow: List<Text>,
     pub deny: List<Text>,
@@ -154,7 +154,7 @@ impl TryClone for IpRestriction {
 }
 
 /// What a size is counted in.
-#[derive(Clone, Copy, Debug, PartialEq, Eq, Hash)]
+#[derive(Clone, Copy, PartialEq, Eq)]
 pub enum SizeUnit {
     /// 2^20 bytes.
     Megabytes,
@@ -164,7 +164,7 @@ pub enum SizeUnit {
 }
 
 /// How long a request's body may be (Kong's plugin request-size-limiting).
-#[derive(Debug, PartialEq, Drop)]
+#[derive(Drop)]
 pub struct SizeLimit {
     /// 1 to 1000000000.
     pub allowed_payload_size: u64,
@@ -181,7 +181,7 @@ impl TryClone for SizeLimit {
 }
 
 /// Which groups may send requests (Kong's plugin acl). Exactly one of the lists is set.
-#[derive(Debug, PartialEq, Drop)]
+#[derive(Drop)]
 pub struct Acl {
     pub allow: List<Text>,
     pub deny: List<Text>,
@@ -199,7 +199,7 @@ impl TryClone for Acl {
 }
 
 /// Whose requests are counted together.
-#[derive(Clone, Copy, Debug, PartialEq, Eq, Hash)]
+#[derive(Clone, Copy, PartialEq, Eq)]
 pub enum LimitBy {
     Consumer,
     Ip,
@@ -208,7 +208,7 @@ pub enum LimitBy {
 
 /// How many requests may come in a window of time (Kong's plugin rate-limiting). Each limit is
 /// 1 to 1000000000, and at least one is set.
-#[derive(Debug, PartialEq, Drop)]
+#[derive(Drop)]
 pub struct RateLimiting {
     pub second: Option<u64>,
     pub minute: Option<u64>,
@@ -232,7 +232,7 @@ impl TryClone for RateLimiting {
 }
 
 /// One step of a request's change: members `name` or `name:value`.
-#[derive(Debug, PartialEq, Drop)]
+#[derive(Drop)]
 pub struct Edits {
     pub headers: List<Text>,
     pub querystring: List<Text>,
@@ -248,7 +248,7 @@ impl TryClone for Edits {
 }
 
 /// How requests are changed (Kong's plugin request-transformer).
-#[derive(Debug, PartialEq, Drop)]
+#[derive(Drop)]
 pub struct RequestTransformer {
     pub remove: Edits,
     pub rename: Edits,
@@ -270,7 +270,7 @@ impl TryClone for RequestTransformer {
 }
 
 /// How the headers of replies are changed (Kong's plugin response-transformer).
-#[derive(Debug, PartialEq, Drop)]
+#[derive(Drop)]
 pub struct ResponseTransformer {
     pub remove: List<Text>,
     pub rename: List<Text>,
@@ -292,7 +292,7 @@ impl TryClone for ResponseTransformer {
 }
 
 /// The reply that ends every request (Kong's plugin request-termination).
-#[derive(Debug, PartialEq, Drop)]
+#[derive(Drop)]
 pub struct Termination {
     /// 200 to 599.
     pub status_code: u16,

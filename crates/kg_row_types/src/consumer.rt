@@ -5,7 +5,7 @@ use kg_text::{NoMemory, Text, TryClone};
 use std::alloc::Global;
 
 /// A consumer of the services (Kong Admin API, "Consumer"). At least one of the two texts is set.
-#[derive(Debug, PartialEq, Drop)]
+#[derive(PartialEq, Drop)]
 pub struct Consumer {
     pub id: Id,
     pub username: Option<Text>,
@@ -30,7 +30,7 @@ impl TryClone for Consumer {
 }
 
 /// A key that tells a consumer (Kong's plugin key-auth).
-#[derive(Debug, PartialEq, Drop)]
+#[derive(PartialEq, Drop)]
 pub struct KeyCred {
     pub id: Id,
     pub consumer: Id,
@@ -51,7 +51,7 @@ impl TryClone for KeyCred {
 }
 
 /// A name and password that tell a consumer (Kong's plugin basic-auth).
-#[derive(Debug, PartialEq, Drop)]
+#[derive(PartialEq, Drop)]
 pub struct BasicCred {
     pub id: Id,
     pub consumer: Id,
@@ -75,7 +75,7 @@ impl TryClone for BasicCred {
 }
 
 /// A group that a consumer belongs to (Kong's plugin acl).
-#[derive(Debug, PartialEq, Drop)]
+#[derive(Drop)]
 pub struct AclRow {
     pub id: Id,
     pub consumer: Id,

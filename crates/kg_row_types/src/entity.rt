@@ -12,7 +12,7 @@ use kg_text::{NoMemory, TryClone};
 use std::alloc::Global;
 
 /// The kinds of rows.
-#[derive(Clone, Copy, Debug, PartialEq, Eq, Hash)]
+#[derive(Clone, Copy, Debug, PartialEq, Eq)]
 pub enum Kind {
     Service,
     Route,
@@ -24,7 +24,7 @@ pub enum Kind {
 }
 
 /// A row of some kind.
-#[derive(Debug, PartialEq, Drop)]
+#[derive(Drop)]
 pub enum Entity {
     Service(Service),
     Route(Route),

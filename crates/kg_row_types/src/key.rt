@@ -10,7 +10,7 @@ use kg_text::{CopyKey, NoMemory, Text, TryClone};
 use std::alloc::Global;
 
 /// A question about the rows that has one value.
-#[derive(Debug, PartialEq, Eq, Hash, Drop)]
+#[derive(PartialEq, Eq, Hash, Drop)]
 pub enum Key {
     /// The credential with this key.
     Cred(Text),

@@ -12,7 +12,7 @@ use kg_text::{NoMemory, TryClone};
 use std::alloc::Global;
 
 /// The plugins that the gateway has.
-#[derive(Clone, Copy, Debug, PartialEq, Eq, Hash)]
+#[derive(Clone, Copy, Debug, PartialEq, Eq)]
 pub enum PluginName {
     Cors,
     KeyAuth,
@@ -84,7 +84,7 @@ impl PluginName {
 }
 
 /// Which requests a plugin sees: those of every part that is set. With none set, all of them.
-#[derive(Clone, Copy, Debug, PartialEq, Eq, Hash)]
+#[derive(Clone, Copy, PartialEq, Eq)]
 pub struct Scope {
     pub service: Option<Id>,
     pub route: Option<Id>,
@@ -139,7 +139,7 @@ fn is(reference: Option<Id>, id: Id) -> bool
 }
 
 /// A plugin with its scope (Kong Admin API, "Plugin").
-#[derive(Debug, PartialEq, Drop)]
+#[derive(Drop)]
 pub struct PluginRow {
     pub id: Id,
     pub scope: Scope,

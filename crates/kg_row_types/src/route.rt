@@ -6,7 +6,7 @@ use std::alloc::Global;
 
 /// One header that a route asks for: a field of this name has one of these values, without regard
 /// to ASCII case.
-#[derive(Debug, PartialEq, Drop)]
+#[derive(PartialEq, Drop)]
 pub struct HeaderTest {
     pub name: Name,
     pub values: List<Text>,
@@ -22,7 +22,7 @@ impl TryClone for HeaderTest {
 }
 
 /// A route to a service (Kong Admin API, "Route"). An empty list is one that isn't set.
-#[derive(Debug, PartialEq, Drop)]
+#[derive(Drop)]
 pub struct Route {
     pub id: Id,
     pub name: Option<Text>,

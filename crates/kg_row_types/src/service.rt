@@ -5,7 +5,7 @@ use kg_text::{NoMemory, Text, TryClone};
 use std::alloc::Global;
 
 /// An upstream service (Kong Admin API, "Service").
-#[derive(Debug, PartialEq, Drop)]
+#[derive(PartialEq, Drop)]
 pub struct Service {
     pub id: Id,
     pub name: Option<Text>,

@@ -8,7 +8,7 @@ use kg_text::{List, NoMemory, Text, TryClone};
 use std::alloc::Global;
 
 /// The value of a key.
-#[derive(Debug, PartialEq, Drop)]
+#[derive(Drop)]
 pub enum Value {
     Cred(Option<KeyCred>),
     Basic(Option<BasicCred>),

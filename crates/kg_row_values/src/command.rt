@@ -5,7 +5,7 @@ use kg_text::{NoMemory, TryClone};
 use std::alloc::Global;
 
 /// A change of the rows that was decided.
-#[derive(Debug, PartialEq, Drop)]
+#[derive(Drop)]
 pub enum Command {
     /// Puts the row at the end of its kind.
     Insert(Entity),

@@ -4,7 +4,7 @@ use kg_entities::{GenKey, Key};
 use kg_text::List;
 
 /// The keys and the generations whose values a command changed, each once.
-#[derive(Debug, PartialEq, Drop)]
+#[derive(Drop)]
 pub struct Touched {
     pub keys: List<Key>,
     pub gens: List<GenKey>,

@@ -12,7 +12,7 @@ use kg_text::{CopyKey, List, NoMemory};
 use std::alloc::Global;
 
 /// A key with its value before a change.
-#[derive(Debug, Drop)]
+#[derive(Drop)]
 pub struct Watched {
     pub key: Key,
     pub before: Value,
