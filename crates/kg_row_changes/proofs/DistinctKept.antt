@@ -1,7 +1,7 @@
 -- Consistent commands leave to one row what only one may have.
 use Rattle.std.proofs.Common.{◌≡◌, ℕ, ◌==◌, Bool, true, false, not, ◌&&◌, Option, Some, None, refl, ap₂}
 use Rattle.kg_row_types.specs.Entities.{kind_of, id_of_row}
-use Rattle.kg_row_types.specs.PluginNames.{plugin_of, priority}
+use Rattle.kg_row_types.specs.PluginNames.{plugin_of, plugin_text}
 use Rattle.kg_row_types.specs.RowChanges.{has_row, names_row}
 use Rattle.kg_row_types.specs.RowLists.{RowLists}
 use Rattle.kg_row_types.specs.ValidRows.{HasDistinctRows, same_id, same_membership, same_place}
@@ -35,7 +35,7 @@ id_flips (Some a) (Some b) = number_flips a b
 
 place_flips : (a b : PluginRow) → same_place a b ≡ same_place b a
 place_flips a b =
-    ap₂ (λ p q. p && q) (number_flips (priority (plugin_of a.config)) (priority (plugin_of b.config)))
+    ap₂ (λ p q. p && q) (bytes_flip (plugin_text (plugin_of a.config)) (plugin_text (plugin_of b.config)))
     (ap₂ (λ p q. p && q) (ap₂ (λ p q. p && q) (id_flips a.scope.service b.scope.service) (id_flips a.scope.route b.scope.route)) (id_flips a.scope.consumer b.scope.consumer))
 
 -- ---- commands

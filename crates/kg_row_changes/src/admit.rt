@@ -188,5 +188,5 @@ fn is_place_taken(plugin: &PluginRow, plugins: &[PluginRow]) -> bool
 pub fn is_same_place(a: &PluginRow, b: &PluginRow) -> bool
     ensures { result ≡ same_place a.now b.now }
 {
-    a.config.name().priority() == b.config.name().priority() && a.scope.is_same(&b.scope)
+    a.config.name().is_same(b.config.name()) && a.scope.is_same(&b.scope)
 }

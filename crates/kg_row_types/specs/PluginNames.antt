@@ -1,5 +1,5 @@
 -- The plugins: their names and their order (Kong Gateway manual, "Plugin execution order").
-use Rattle.std.specs.Prelude.{ℕ, Bool, ◌==◌, List, [], ◌∷◌, find, Option, codes}
+use Rattle.std.specs.Prelude.{ℕ, Bool, List, [], ◌∷◌, find, Option, codes}
 use Rattle.std.specs.Str.{bytes_eq}
 use Rattle.kg_row_types.specs.declared.config.Config.{Config}
 use Rattle.kg_row_types.specs.declared.config.Config.TheVariants as of_config
@@ -32,10 +32,6 @@ priority RequestTransformer = 801
 priority ResponseTransformer = 800
 priority RequestTermination = 2
 
--- no two plugins have one priority
-abbrev pub same_plugin : PluginName → PluginName → Bool
-same_plugin a b = priority a == priority b
-
 -- all plugins, in the order in which they run
 abbrev pub plugins_in_order : List PluginName
 plugins_in_order =
@@ -58,3 +54,7 @@ plugin_text RequestTermination = codes "request-termination"
 -- the plugin with this text as its name
 abbrev pub plugin_named : List ℕ → Option PluginName
 plugin_named text = find (λ name. bytes_eq text (plugin_text name)) plugins_in_order
+
+-- two plugins of one name
+abbrev pub same_plugin : PluginName → PluginName → Bool
+same_plugin a b = bytes_eq (plugin_text a) (plugin_text b)

@@ -1,7 +1,7 @@
 //! Plugins: what is done to the requests and replies of a scope.
 
 ghost use Rattle.std.specs.Prelude.{◌≡◌};
-ghost use Rattle.kg_row_types.specs.PluginNames.{priority, plugin_text, plugin_named};
+ghost use Rattle.kg_row_types.specs.PluginNames.{priority, plugin_text, plugin_named, same_plugin};
 ghost use Rattle.kg_row_types.specs.RowChanges.{names_part, refers_to};
 ghost use Rattle.kg_row_types.specs.ValidRows.{same_id, same_scope};
 
@@ -61,6 +61,13 @@ impl PluginName {
             PluginName::ResponseTransformer => "response-transformer",
             PluginName::RequestTermination => "request-termination",
         }
+    }
+
+    /// Whether both have one name.
+    pub fn is_same(self, other: PluginName) -> bool
+        ensures { result ≡ same_plugin self other }
+    {
+        self.as_str() == other.as_str()
     }
 
     /// The plugin with this name.

@@ -200,7 +200,7 @@ fn is_renamed(kind: Kind, body: &Value, base: &Base<'_>) -> bool
     match kind {
         Kind::Plugin => match named_plugin(body) {
             Some(name) => match old_plugin(base) {
-                Some(old) => name.priority() != old.priority(),
+                Some(old) => !name.is_same(old),
                 None => false,
             },
             None => false,
