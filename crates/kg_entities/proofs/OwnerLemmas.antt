@@ -1,39 +1,23 @@
 -- What is listed for each consumer stays right when memberships come, change and go.
-use Rattle.std.proofs.Common.{◌≡◌, ℕ, Bool, true, false, cond, not, ◌||◌, ◌&&◌, nat_eq, List, [], ◌∷◌, ◌++◌, Option, Some, filter, unwrap_or, append-nil, refl, sym, ap, ap₂, ◌∙◌, true≢false}
+use Rattle.std.proofs.Common.{◌≡◌, ℕ, Bool, true, false, cond, not, ◌||◌, ◌&&◌, nat_eq, List, [], ◌∷◌, ◌++◌, Option, Some, map, filter, unwrap_or, append-nil, refl, sym, ap, ap₂, ◌∙◌, true≢false}
 use Rattle.std.proofs.lemmas.Bool.{eqb-true}
 use Rattle.std.proofs.lemmas.List.Elements.{filter-append}
-use Rattle.std.proofs.lemmas.List.Folds.{list_any-append}
 use Rattle.std.specs.List.{list_any}
-use Rattle.kg_entities.proofs.TableLemmas.{flipped}
 use Rattle.kg_entities.proofs.TextIndexLemmas.{all_left, same_number}
-use Rattle.kg_entities.specs.OwnerIndexes.{IsOwnerIndex, with_row, exchanged}
+use Rattle.kg_entities.specs.OwnerIndexes.{IsOwnerIndex, with_row, exchanged, exchange}
 use Rattle.kg_row_types.specs.Tables.{replaced}
 use Rattle.kg_row_types.specs.declared.consumer.AclRow.{AclRow}
 
--- ---- and, or
-
-and_swap : (a b c : Bool) → (a && (b && c)) ≡ (b && (a && c))
-and_swap true b c = refl
-and_swap false true c = refl
-and_swap false false c = refl
-
-or_false : (a : Bool) → (a || false) ≡ a
-or_false true = refl
-or_false false = refl
-
-or_move : (a b c : Bool) → (a || (b || c)) ≡ (b || (a || c))
-or_move true true c = refl
-or_move true false c = refl
-or_move false b c = refl
-
-and_false : (b : Bool) → (b && false) ≡ false
-and_false true = refl
-and_false false = refl
-
 -- ---- tests of lists
 
+and_turn : (a b : Bool) → (a && b) ≡ (b && a)
+and_turn true true = refl
+and_turn true false = refl
+and_turn false true = refl
+and_turn false false = refl
+
 module _ {X : Type 0} where
-  pub any_alike : (p q : X → Bool) → ((x : X) → p x ≡ q x) → (xs : List X) → list_any p xs ≡ list_any q xs
+  any_alike : (p q : X → Bool) → ((x : X) → p x ≡ q x) → (xs : List X) → list_any p xs ≡ list_any q xs
   any_alike p q same [] = refl
   any_alike p q same (x ∷ xs) = ap₂ (λ a b. a || b) (same x) (any_alike p q same xs)
 
@@ -47,105 +31,150 @@ module _ {X : Type 0} where
       (elim (keep x) as (λ b. list_any p (cond {A = List X} b (x ∷ filter keep xs) (filter keep xs)) ≡ ((b && p x) || list_any (λ y. keep y && p y) xs))
       [ true ↦ ap (λ rest. p x || rest) (any_filter keep p xs) | false ↦ any_filter keep p xs ])
 
-  -- where none is in the one part, all are in the other
-  any_rest : (gone p : X → Bool) (xs : List X) → filter gone xs ≡ [] → list_any p xs ≡ list_any (λ x. not (gone x) && p x) xs
-  any_rest gone p [] none = refl
-  any_rest gone p (x ∷ xs) none =
-      (elim (gone x) as (λ b. cond {A = List X} b (x ∷ filter gone xs) (filter gone xs) ≡ [] → (p x || list_any p xs) ≡ ((not b && p x) || list_any (λ y. not (gone y) && p y) xs)) [
-        | true ↦ λ some. absurd (true≢false (ap (λ ys. is_some_list ys) some))
-        | false ↦ λ more. ap (λ rest. p x || rest) (any_rest gone p xs more)
+  filter_alike : (p q : X → Bool) → ((x : X) → p x ≡ q x) → (xs : List X) → filter p xs ≡ filter q xs
+  filter_alike p q same [] = refl
+  filter_alike p q same (x ∷ xs) =
+      ap (λ b. cond {A = List X} b (x ∷ filter p xs) (filter p xs)) (same x)
+      ∙ ap (λ rest. cond {A = List X} (q x) (x ∷ rest) rest) (filter_alike p q same xs)
+
+  filter_never : (xs : List X) → filter (λ x. false) xs ≡ []
+  filter_never [] = refl
+  filter_never (x ∷ xs) = filter_never xs
+
+  -- two filters are one
+  filter_both : (p q : X → Bool) (xs : List X) → filter p (filter q xs) ≡ filter (λ x. q x && p x) xs
+  filter_both p q [] = refl
+  filter_both p q (x ∷ xs) =
+      (elim (q x) as (λ b. filter p (cond {A = List X} b (x ∷ filter q xs) (filter q xs)) ≡ cond {A = List X} (b && p x) (x ∷ filter (λ y. q y && p y) xs) (filter (λ y. q y && p y) xs))
+      [ true ↦ ap (λ rest. cond {A = List X} (p x) (x ∷ rest) rest) (filter_both p q xs) | false ↦ filter_both p q xs ])
+
+  filter_swap : (p q : X → Bool) (xs : List X) → filter p (filter q xs) ≡ filter q (filter p xs)
+  filter_swap p q xs = filter_both p q xs ∙ filter_alike (λ x. q x && p x) (λ x. p x && q x) (λ x. and_turn (q x) (p x)) xs ∙ sym (filter_both q p xs)
+
+  -- where none of those that go would be kept, they aren't missed
+  filter_apart : (gone keep : X → Bool) (xs : List X) → list_any (λ x. gone x && keep x) xs ≡ false → filter (λ x. not (gone x) && keep x) xs ≡ filter keep xs
+  filter_apart gone keep [] none = refl
+  filter_apart gone keep (x ∷ xs) none =
+      (elim (gone x) as (λ b. ((b && keep x) || others) ≡ false → cond {A = List X} (not b && keep x) (x ∷ left) left ≡ cond {A = List X} (keep x) (x ∷ filter keep xs) (filter keep xs)) [
+        | true ↦ λ here. (elim (keep x) as (λ b. (b || others) ≡ false → left ≡ cond {A = List X} b (x ∷ filter keep xs) (filter keep xs)) [
+          | true ↦ λ yes. absurd (true≢false yes)
+          | false ↦ λ more. filter_apart gone keep xs more
+        ]) here
+        | false ↦ λ more. ap (λ rest. cond {A = List X} (keep x) (x ∷ rest) rest) (filter_apart gone keep xs more)
       ]) none
     where
-      is_some_list : List X → Bool
-      is_some_list [] = false
-      is_some_list (y ∷ ys) = true
+      others : Bool
+      others = list_any (λ y. gone y && keep y) xs
 
-  abbrev head_or : X → List X → X
-  head_or d [] = d
-  head_or d (y ∷ ys) = y
+      left : List X
+      left = filter (λ y. not (gone y) && keep y) xs
+
+  -- the only one that goes wouldn't be kept
+  none_kept : (gone keep : X → Bool) (one : X) (xs : List X) → filter gone xs ≡ one ∷ [] → keep one ≡ false → list_any (λ x. gone x && keep x) xs ≡ false
+  none_kept gone keep one xs is apart = sym (any_filter gone keep xs) ∙ ap (list_any keep) is ∙ ap (λ b. b || false) apart
+
+  abbrev is_some_list : List X → Bool
+  is_some_list [] = false
+  is_some_list (y ∷ ys) = true
 
   abbrev tail_of : List X → List X
   tail_of [] = []
   tail_of (y ∷ ys) = ys
 
-  -- one is in the one part
-  any_parts : (gone p : X → Bool) (one : X) (xs : List X) → filter gone xs ≡ one ∷ [] → list_any p xs ≡ (p one || list_any (λ x. not (gone x) && p x) xs)
-  any_parts gone p one [] is = absurd (true≢false (sym (ap (λ ys. has_one ys) is)))
-    where
-      has_one : List X → Bool
-      has_one [] = false
-      has_one (y ∷ ys) = true
-  any_parts gone p one (x ∷ xs) is =
-      (elim (gone x) as (λ b. cond {A = List X} b (x ∷ filter gone xs) (filter gone xs) ≡ one ∷ [] → (p x || list_any p xs) ≡ (p one || ((not b && p x) || list_any (λ y. not (gone y) && p y) xs))) [
-        | true ↦ λ here. ap₂ (λ a b. a || b) (ap (λ ys. p (head_or x ys)) here) (any_rest gone p xs (ap tail_of here))
-        | false ↦ λ more. ap (λ rest. p x || rest) (any_parts gone p one xs more) ∙ or_move (p x) (p one) (list_any (λ y. not (gone y) && p y) xs)
+  -- ---- one in the place of those that go
+
+  abbrev put : (X → Bool) → X → X → X
+  put gone new x = cond {A = X} (gone x) new x
+
+  put_nowhere : (gone : X → Bool) (new : X) (xs : List X) → filter gone xs ≡ [] → xs ≡ map (put gone new) xs
+  put_nowhere gone new [] none = refl
+  put_nowhere gone new (x ∷ xs) none =
+      (elim (gone x) as (λ b. cond {A = List X} b (x ∷ filter gone xs) (filter gone xs) ≡ [] → x ∷ xs ≡ cond {A = X} b new x ∷ map (put gone new) xs) [
+        | true ↦ λ some. absurd (true≢false (ap is_some_list some))
+        | false ↦ λ more. ap (λ rest. x ∷ rest) (put_nowhere gone new xs more)
+      ]) none
+
+  -- the first that goes is replaced, and it is the only one
+  put_once : (gone : X → Bool) (new one : X) (xs : List X) → filter gone xs ≡ one ∷ [] → replaced gone new xs ≡ map (put gone new) xs
+  put_once gone new one [] is = refl
+  put_once gone new one (x ∷ xs) is =
+      (elim (gone x) as (λ b. cond {A = List X} b (x ∷ filter gone xs) (filter gone xs) ≡ one ∷ [] → cond {A = List X} b (new ∷ xs) (x ∷ replaced gone new xs) ≡ cond {A = X} b new x ∷ map (put gone new) xs) [
+        | true ↦ λ here. ap (λ rest. new ∷ rest) (put_nowhere gone new xs (ap tail_of here))
+        | false ↦ λ more. ap (λ rest. x ∷ rest) (put_once gone new one xs more)
       ]) is
 
-  -- one takes its place
-  any_replaced : (gone p : X → Bool) (one new : X) (xs : List X) → filter gone xs ≡ one ∷ [] → list_any p (replaced gone new xs) ≡ (p new || list_any (λ x. not (gone x) && p x) xs)
-  any_replaced gone p one new [] is = absurd (true≢false (sym (ap (λ ys. has_one ys) is)))
+  -- the new one isn't kept
+  put_strange : (gone keep : X → Bool) (new : X) (xs : List X) → keep new ≡ false → filter keep (map (put gone new) xs) ≡ filter (λ x. not (gone x) && keep x) xs
+  put_strange gone keep new [] strange = refl
+  put_strange gone keep new (x ∷ xs) strange =
+      (elim (gone x) as (λ b. cond {A = List X} (keep (cond {A = X} b new x)) (cond {A = X} b new x ∷ filter keep (map (put gone new) xs)) (filter keep (map (put gone new) xs)) ≡ cond {A = List X} (not b && keep x) (x ∷ filter (λ y. not (gone y) && keep y) xs) (filter (λ y. not (gone y) && keep y) xs)) [
+        | true ↦ ap (λ b. cond {A = List X} b (new ∷ filter keep (map (put gone new) xs)) (filter keep (map (put gone new) xs))) strange ∙ put_strange gone keep new xs strange
+        | false ↦ ap (λ rest. cond {A = List X} (keep x) (x ∷ rest) rest) (put_strange gone keep new xs strange)
+      ])
+
+  -- those that go are kept, so it may be put before or after the others are left out
+  put_among : (gone keep : X → Bool) (new : X) (xs : List X) → list_any (λ x. gone x && not (keep x)) xs ≡ false → filter keep (map (put gone new) (filter keep xs)) ≡ filter keep (map (put gone new) xs)
+  put_among gone keep new [] none = refl
+  put_among gone keep new (x ∷ xs) none =
+      (elim (keep x) as (λ b. keep x ≡ b → ((gone x && not b) || others) ≡ false → filter keep (map (put gone new) (cond {A = List X} b (x ∷ filter keep xs) (filter keep xs))) ≡ cond {A = List X} (keep (put gone new x)) (put gone new x ∷ all) all) [
+        | true ↦ λ _ more. ap (λ rest. cond {A = List X} (keep (put gone new x)) (put gone new x ∷ rest) rest)
+            (put_among gone keep new xs ((elim (gone x) as (λ b. ((b && false) || others) ≡ false → others ≡ false) [ true ↦ λ h. h | false ↦ λ h. h ]) more))
+        | false ↦ λ out more. (elim (gone x) as (λ b. ((b && true) || others) ≡ false → filter keep (map (put gone new) (filter keep xs)) ≡ cond {A = List X} (keep (cond {A = X} b new x)) (cond {A = X} b new x ∷ all) all) [
+          | true ↦ λ yes. absurd (true≢false yes)
+          | false ↦ λ h. put_among gone keep new xs h ∙ sym (ap (λ b. cond {A = List X} b (x ∷ all) all) out)
+        ]) more
+      ]) refl none
     where
-      has_one : List X → Bool
-      has_one [] = false
-      has_one (y ∷ ys) = true
-  any_replaced gone p one new (x ∷ xs) is =
-      (elim (gone x) as (λ b. cond {A = List X} b (x ∷ filter gone xs) (filter gone xs) ≡ one ∷ [] → list_any p (cond {A = List X} b (new ∷ xs) (x ∷ replaced gone new xs)) ≡ (p new || ((not b && p x) || list_any (λ y. not (gone y) && p y) xs))) [
-        | true ↦ λ here. ap (λ rest. p new || rest) (any_rest gone p xs (ap tail_of here))
-        | false ↦ λ more. ap (λ rest. p x || rest) (any_replaced gone p one new xs more) ∙ or_move (p x) (p new) (list_any (λ y. not (gone y) && p y) xs)
-      ]) is
+      others : Bool
+      others = list_any (λ y. gone y && not (keep y)) xs
+
+      all : List X
+      all = filter keep (map (put gone new) xs)
 
   -- where none is in the one part, all stay
   pub all_but_none : (gone : X → Bool) (xs : List X) → filter gone xs ≡ [] → xs ≡ filter (λ x. not (gone x)) xs
   all_but_none gone [] none = refl
   all_but_none gone (x ∷ xs) none =
       (elim (gone x) as (λ b. cond {A = List X} b (x ∷ filter gone xs) (filter gone xs) ≡ [] → x ∷ xs ≡ cond {A = List X} (not b) (x ∷ filter (λ y. not (gone y)) xs) (filter (λ y. not (gone y)) xs)) [
-        | true ↦ λ some. absurd (true≢false (ap (λ ys. is_some_list ys) some))
+        | true ↦ λ some. absurd (true≢false (ap is_some_list some))
         | false ↦ λ more. ap (λ rest. x ∷ rest) (all_but_none gone xs more)
       ]) none
-    where
-      is_some_list : List X → Bool
-      is_some_list [] = false
-      is_some_list (y ∷ ys) = true
 
   -- none is replaced
   pub none_replaced : (gone : X → Bool) (new : X) (xs : List X) → filter gone xs ≡ [] → xs ≡ replaced gone new xs
   none_replaced gone new [] none = refl
   none_replaced gone new (x ∷ xs) none =
       (elim (gone x) as (λ b. cond {A = List X} b (x ∷ filter gone xs) (filter gone xs) ≡ [] → x ∷ xs ≡ cond {A = List X} b (new ∷ xs) (x ∷ replaced gone new xs)) [
-        | true ↦ λ some. absurd (true≢false (ap (λ ys. is_some_list ys) some))
+        | true ↦ λ some. absurd (true≢false (ap is_some_list some))
         | false ↦ λ more. ap (λ rest. x ∷ rest) (none_replaced gone new xs more)
       ]) none
-    where
-      is_some_list : List X → Bool
-      is_some_list [] = false
-      is_some_list (y ∷ ys) = true
 
 -- ---- the index
 
 abbrev has_id : ℕ → AclRow → Bool
 has_id id row = nat_eq row.id id
 
-abbrev owns : ℕ → (AclRow → Bool) → AclRow → Bool
-owns consumer test row = nat_eq row.consumer consumer && test row
+abbrev owned : ℕ → AclRow → Bool
+owned consumer row = nat_eq row.consumer consumer
 
 -- no row
 pub owners_new : (own : ℕ → List AclRow) → ((consumer : ℕ) → own consumer ≡ []) → IsOwnerIndex own []
-owners_new own none consumer test = ap (list_any test) (none consumer)
+owners_new own none consumer = none consumer
 
 -- the same lists
 pub owners_same : (before now : ℕ → List AclRow) (rows : List AclRow) → ((consumer : ℕ) → now consumer ≡ before consumer) → IsOwnerIndex before rows → IsOwnerIndex now rows
-owners_same before now rows same index consumer test = ap (list_any test) (same consumer) ∙ index consumer test
+owners_same before now rows same index consumer = same consumer ∙ index consumer
 
 -- a row comes last
 pub owners_push : (before now : ℕ → List AclRow) (new : AclRow) (rows : List AclRow) → ((consumer : ℕ) → now consumer ≡ with_row new consumer (before consumer))
     → IsOwnerIndex before rows → IsOwnerIndex now (rows ++ new ∷ [])
-owners_push before now new rows says index consumer test =
-    ap (list_any test) (says consumer)
-    ∙ (elim (nat_eq new.consumer consumer) as (λ b. list_any test (cond {A = List AclRow} b (before consumer ++ new ∷ []) (before consumer)) ≡ (list_any (owns consumer test) rows || ((b && test new) || false))) [
-      | true ↦ list_any-append test (before consumer) (new ∷ []) ∙ ap (λ b. b || (test new || false)) (index consumer test)
-      | false ↦ index consumer test ∙ sym (or_false (list_any (owns consumer test) rows))
+owners_push before now new rows says index consumer =
+    says consumer
+    ∙ (elim (nat_eq new.consumer consumer) as (λ b. cond {A = List AclRow} b (before consumer ++ new ∷ []) (before consumer) ≡ filter (owned consumer) rows ++ cond {A = List AclRow} b (new ∷ []) []) [
+      | true ↦ ap (λ own. own ++ new ∷ []) (index consumer)
+      | false ↦ index consumer ∙ sym (append-nil (filter (owned consumer) rows))
     ])
-    ∙ sym (list_any-append (owns consumer test) rows (new ∷ []))
+    ∙ sym (filter-append (owned consumer) rows (new ∷ []))
 
 -- a row that came last goes again
 pub taken_back : (new : AclRow) (rows : List AclRow) → list_any (has_id new.id) rows ≡ false → filter (λ row. not (has_id new.id row)) (rows ++ new ∷ []) ≡ rows
@@ -154,89 +183,77 @@ taken_back new rows none =
     ∙ ap₂ (λ a b. a ++ b) (sym (all_left (λ row. row.id) new.id rows none)) (ap (λ b. cond {A = List AclRow} (not b) (new ∷ []) []) (same_number new.id))
     ∙ append-nil rows
 
--- the other rows of a consumer
-others : (own : ℕ → List AclRow) (id : ℕ) (rows : List AclRow) (consumer : ℕ) (test : AclRow → Bool) → IsOwnerIndex own rows
-    → list_any test (filter (λ row. not (has_id id row)) (own consumer)) ≡ list_any (λ row. not (has_id id row) && owns consumer test row) rows
-others own id rows consumer test index =
-    any_filter (λ row. not (has_id id row)) test (own consumer)
-    ∙ index consumer (λ row. not (has_id id row) && test row)
-    ∙ any_alike (λ row. nat_eq row.consumer consumer && (not (has_id id row) && test row)) (λ row. not (has_id id row) && owns consumer test row)
-    (λ row. and_swap (nat_eq row.consumer consumer) (not (has_id id row)) (test row)) rows
-
 -- the rows of a consumer that isn't the row's
-strangers : (own : ℕ → List AclRow) (id : ℕ) (old : AclRow) (rows : List AclRow) (consumer : ℕ) (test : AclRow → Bool) → IsOwnerIndex own rows
+strangers : (own : ℕ → List AclRow) (id : ℕ) (old : AclRow) (rows : List AclRow) (consumer : ℕ) → IsOwnerIndex own rows
     → filter (has_id id) rows ≡ old ∷ [] → nat_eq old.consumer consumer ≡ false
-    → list_any test (own consumer) ≡ list_any (λ row. not (has_id id row) && owns consumer test row) rows
-strangers own id old rows consumer test index one other =
-    index consumer test
-    ∙ any_parts (has_id id) (owns consumer test) old rows one
-    ∙ ap (λ b. (b && test old) || list_any (λ row. not (has_id id row) && owns consumer test row) rows) other
+    → own consumer ≡ filter (λ row. not (has_id id row) && owned consumer row) rows
+strangers own id old rows consumer index one other =
+    index consumer ∙ sym (filter_apart (has_id id) (owned consumer) rows (none_kept (has_id id) (owned consumer) old rows one other))
+
+-- what is left to each consumer when the row with an id goes from its own one
+less : (own : ℕ → List AclRow) (id : ℕ) (old : AclRow) (rows : List AclRow) (consumer : ℕ) → IsOwnerIndex own rows → filter (has_id id) rows ≡ old ∷ []
+    → cond {A = List AclRow} (nat_eq old.consumer consumer) (filter (λ row. not (has_id id row)) (own consumer)) (own consumer) ≡ filter (λ row. not (has_id id row) && owned consumer row) rows
+less own id old rows consumer index one =
+    (elim (nat_eq old.consumer consumer) as (λ b. nat_eq old.consumer consumer ≡ b → cond {A = List AclRow} b (filter (λ row. not (has_id id row)) (own consumer)) (own consumer) ≡ filter (λ row. not (has_id id row) && owned consumer row) rows) [
+      | true ↦ λ _. ap (filter (λ row. not (has_id id row))) (index consumer) ∙ filter_swap (λ row. not (has_id id row)) (owned consumer) rows ∙ filter_both (owned consumer) (λ row. not (has_id id row)) rows
+      | false ↦ λ other. strangers own id old rows consumer index one other
+    ]) refl
 
 -- the row with an id goes
 pub owners_removed : (before now : ℕ → List AclRow) (old : AclRow) (id : ℕ) (rows left : List AclRow)
     → ((consumer : ℕ) → now consumer ≡ cond {A = List AclRow} (nat_eq old.consumer consumer) (filter (λ row. not (has_id id row)) (before consumer)) (before consumer))
     → left ≡ filter (λ row. not (has_id id row)) rows → filter (has_id id) rows ≡ old ∷ [] → IsOwnerIndex before rows → IsOwnerIndex now left
-owners_removed before now old id rows left says less one index consumer test =
-    ap (list_any test) (says consumer)
-    ∙ (elim (nat_eq old.consumer consumer) as (λ b. nat_eq old.consumer consumer ≡ b → list_any test (cond {A = List AclRow} b (filter (λ row. not (has_id id row)) (before consumer)) (before consumer)) ≡ list_any (λ row. not (has_id id row) && owns consumer test row) rows) [
-      | true ↦ λ _. others before id rows consumer test index
-      | false ↦ λ other. strangers before id old rows consumer test index one other
-    ]) refl
-    ∙ sym (any_filter (λ row. not (has_id id row)) (owns consumer test) rows)
-    ∙ ap (list_any (owns consumer test)) (sym less)
+owners_removed before now old id rows left says gone one index consumer =
+    says consumer ∙ less before id old rows consumer index one
+    ∙ sym (filter_both (owned consumer) (λ row. not (has_id id row)) rows)
+    ∙ ap (filter (owned consumer)) (sym gone)
 
 -- a row in the place of the one with its id
-pub owners_replaced : (before now : ℕ → List AclRow) (old new : AclRow) (rows changed : List AclRow)
-    → ((consumer : ℕ) → now consumer ≡ exchanged old.consumer new consumer (before consumer))
+pub owners_replaced : (before now : ℕ → List AclRow) (old new : AclRow) (rows changed source own : List AclRow)
+    → ((consumer : ℕ) → now consumer ≡ exchanged old.consumer new.consumer new.id own consumer (before consumer))
+    → own ≡ filter (owned new.consumer) (map (exchange new) source)
+    → source ≡ cond {A = List AclRow} (nat_eq old.consumer new.consumer) (filter (owned new.consumer) rows) rows
     → changed ≡ replaced (has_id new.id) new rows → filter (has_id new.id) rows ≡ old ∷ [] → IsOwnerIndex before rows → IsOwnerIndex now changed
-owners_replaced before now old new rows changed says is one index consumer test =
-    ap (list_any test) (says consumer)
-    ∙ (elim (nat_eq new.consumer consumer) as (λ b. list_any test (cond {A = List AclRow} b (less ++ new ∷ []) (cond {A = List AclRow} (nat_eq old.consumer consumer) less (before consumer))) ≡ ((b && test new) || rest)) [
-      | true ↦ list_any-append test less (new ∷ []) ∙ ap (λ b. b || (test new || false)) (others before new.id rows consumer test index) ∙ or_turn rest (test new)
-      | false ↦ (elim (nat_eq old.consumer consumer) as (λ b. nat_eq old.consumer consumer ≡ b → list_any test (cond {A = List AclRow} b less (before consumer)) ≡ rest) [
-        | true ↦ λ _. others before new.id rows consumer test index
-        | false ↦ λ other. strangers before new.id old rows consumer test index one other
-      ]) refl
-    ])
-    ∙ sym (any_replaced (has_id new.id) (owns consumer test) old new rows one)
-    ∙ ap (list_any (owns consumer test)) (sym is)
+owners_replaced before now old new rows changed source own says own_is source_is is one index consumer =
+    says consumer
+    ∙ (elim (nat_eq new.consumer consumer) as (λ b. nat_eq new.consumer consumer ≡ b → cond {A = List AclRow} b own (cond {A = List AclRow} (nat_eq old.consumer consumer) (filter (λ row. not (has_id new.id row)) (before consumer)) (before consumer)) ≡ filter (owned consumer) (map (exchange new) rows)) [
+      | true ↦ λ same. own_is ∙ ap (λ rows. filter (owned new.consumer) (map (exchange new) rows)) source_is ∙ from_source
+          ∙ ap (λ k. filter (owned k) (map (exchange new) rows)) (eqb-true new.consumer consumer same)
+      | false ↦ λ other. less before new.id old rows consumer index one ∙ sym (put_strange (has_id new.id) (owned consumer) new rows other)
+    ]) refl
+    ∙ ap (filter (owned consumer)) (sym (is ∙ put_once (has_id new.id) new old rows one))
   where
-    less : List AclRow
-    less = filter (λ row. not (has_id new.id row)) (before consumer)
-
-    rest : Bool
-    rest = list_any (λ row. not (has_id new.id row) && owns consumer test row) rows
-
-    or_turn : (a b : Bool) → (a || (b || false)) ≡ (b || a)
-    or_turn true true = refl
-    or_turn true false = refl
-    or_turn false true = refl
-    or_turn false false = refl
+    from_source : filter (owned new.consumer) (map (exchange new) (cond {A = List AclRow} (nat_eq old.consumer new.consumer) (filter (owned new.consumer) rows) rows)) ≡ filter (owned new.consumer) (map (exchange new) rows)
+    from_source =
+        (elim (nat_eq old.consumer new.consumer) as (λ b. nat_eq old.consumer new.consumer ≡ b → filter (owned new.consumer) (map (exchange new) (cond {A = List AclRow} b (filter (owned new.consumer) rows) rows)) ≡ filter (owned new.consumer) (map (exchange new) rows)) [
+          | true ↦ λ its. put_among (has_id new.id) (owned new.consumer) new rows (none_kept (has_id new.id) (λ row. not (owned new.consumer row)) old rows one (ap not its))
+          | false ↦ λ _. refl
+        ]) refl
 
 -- a consumer's rows go
 pub owners_cleared : (before now : ℕ → List AclRow) (gone : ℕ) (rows left : List AclRow)
     → ((consumer : ℕ) → now consumer ≡ cond {A = List AclRow} (nat_eq gone consumer) [] (before consumer))
     → left ≡ filter (λ row. not (nat_eq row.consumer gone)) rows → IsOwnerIndex before rows → IsOwnerIndex now left
-owners_cleared before now gone rows left says less index consumer test =
-    ap (list_any test) (says consumer)
-    ∙ (elim (nat_eq gone consumer) as (λ b. nat_eq gone consumer ≡ b → list_any test (cond {A = List AclRow} b [] (before consumer)) ≡ list_any (λ row. not (nat_eq row.consumer gone) && owns consumer test row) rows) [
-      | true ↦ λ same. sym (any_alike (λ row. not (nat_eq row.consumer gone) && owns consumer test row) (λ row. false)
-          (λ row. ap (λ k. not (nat_eq row.consumer k) && owns consumer test row) (eqb-true gone consumer same) ∙ never (nat_eq row.consumer consumer) (test row)) rows ∙ any_none rows)
-      | false ↦ λ other. index consumer test
-          ∙ any_alike (owns consumer test) (λ row. not (nat_eq row.consumer gone) && owns consumer test row) (λ row. apart row other) rows
+owners_cleared before now gone rows left says all_gone index consumer =
+    says consumer
+    ∙ (elim (nat_eq gone consumer) as (λ b. nat_eq gone consumer ≡ b → cond {A = List AclRow} b [] (before consumer) ≡ filter (λ row. not (owned gone row) && owned consumer row) rows) [
+      | true ↦ λ same. sym (filter_alike (λ row. not (owned gone row) && owned consumer row) (λ row. false)
+          (λ row. ap (λ k. not (owned k row) && owned consumer row) (eqb-true gone consumer same) ∙ never (owned consumer row)) rows ∙ filter_never rows)
+      | false ↦ λ other. index consumer ∙ sym (filter_apart (owned gone) (owned consumer) rows
+          (any_alike (λ row. owned gone row && owned consumer row) (λ row. false) (λ row. apart row other) rows ∙ any_none rows))
     ]) refl
-    ∙ sym (any_filter (λ row. not (nat_eq row.consumer gone)) (owns consumer test) rows)
-    ∙ ap (list_any (owns consumer test)) (sym less)
+    ∙ sym (filter_both (owned consumer) (λ row. not (owned gone row)) rows)
+    ∙ ap (filter (owned consumer)) (sym all_gone)
   where
-    never : (b c : Bool) → (not b && (b && c)) ≡ false
-    never true c = refl
-    never false c = refl
+    never : (b : Bool) → (not b && b) ≡ false
+    never true = refl
+    never false = refl
 
-    apart : (row : AclRow) → nat_eq gone consumer ≡ false → owns consumer test row ≡ (not (nat_eq row.consumer gone) && owns consumer test row)
+    apart : (row : AclRow) → nat_eq gone consumer ≡ false → (owned gone row && owned consumer row) ≡ false
     apart row other =
-        (elim (nat_eq row.consumer consumer) as (λ b. nat_eq row.consumer consumer ≡ b → (b && test row) ≡ (not (nat_eq row.consumer gone) && (b && test row))) [
-          | true ↦ λ same. ap (λ b. not b && test row) (sym (ap (λ k. nat_eq k gone) (eqb-true row.consumer consumer same) ∙ flipped consumer gone ∙ other))
-          | false ↦ λ _. sym (and_false (not (nat_eq row.consumer gone)))
+        (elim (nat_eq row.consumer gone) as (λ b. nat_eq row.consumer gone ≡ b → (b && nat_eq row.consumer consumer) ≡ false) [
+          | true ↦ λ same. ap (λ k. nat_eq k consumer) (eqb-true row.consumer gone same) ∙ other
+          | false ↦ λ _. refl
         ]) refl
 
 -- ---- one list changes

@@ -1,4 +1,4 @@
--- An index of rows by a text of theirs: for each text which row has it, so that no list is searched.
+-- Machinery for proofs: an index of rows by a text of theirs, which tells for each text which row has it.
 use Rattle.std.specs.Prelude.{◌≡◌, ℕ, Bool, true, false, ◌&&◌, ◌==◌, cond, List, All, Option, Some, None, nat_eq}
 use Rattle.std.specs.Cmp.Lexicographic.{pointwise}
 use Rattle.std.specs.List.{list_any}

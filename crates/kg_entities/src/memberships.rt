@@ -1,15 +1,15 @@
 //! The memberships, with an index by id and by consumer.
 
-ghost use Rattle.std.specs.Prelude.{◌≡◌, [], ◌∷◌, ◌++◌, ◌==◌, false, OnOk, OnErr, filter, not};
+ghost use Rattle.std.specs.Prelude.{◌≡◌, [], ◌∷◌, ◌++◌, ◌==◌, false, IfOk, OnOk, OnErr, filter, map, not, if◌then◌else◌};
 ghost use Rattle.std.specs.List.{list_any};
-ghost use Rattle.kg_entities.specs.OwnerIndexes.{AreRowsOf};
+ghost use Rattle.kg_entities.specs.OwnerIndexes.{exchange};
 ghost use Rattle.kg_row_types.specs.Tables.{replaced};
 
 use crate::owner_index::OwnerIndex;
 use crate::table::RowTable;
 use kg_row_types::consumer::AclRow;
 use kg_row_types::id::Id;
-use kg_text::{NoMemory, TryClone};
+use kg_text::{List, NoMemory, TryClone};
 use std::alloc::Global;
 use std::marker::Model;
 
@@ -49,9 +49,9 @@ impl Memberships {
         &self.table
     }
 
-    /// The rows of a consumer, in any order.
+    /// The rows of a consumer.
     pub(crate) fn of(&self, consumer: Id) -> &[AclRow]
-        ensures { AreRowsOf consumer result.now self.now }
+        ensures { result.now ≡ filter (λ row. row.consumer == consumer) self.now }
     {
         self.owners.of(consumer)
     }
@@ -79,13 +79,25 @@ impl Memberships {
         ensures ok { OnOk result (self.new ≡ replaced (λ other. other.id == row.id) row self.old) }
         ensures err { OnErr result (self.new ≡ self.old) }
     {
-        let copy = row.try_clone(alloc)?;
         let Some(old) = self.table.get(row.id) else {
             return Ok(());
         };
-        self.owners.exchange(alloc, old.consumer, copy)?;
+        let before = old.consumer;
+        let rows = with_exchanged(alloc, self.sources(before, row.consumer), &row)?;
+        self.owners.exchange(before, row.consumer, row.id, rows)?;
         self.table.replace(row);
         Ok(())
+    }
+
+    // Where the rows of a consumer will come from: its own ones, unless one comes from another consumer.
+    fn sources(&self, before: Id, after: Id) -> &[AclRow]
+        ensures { result.now ≡ (if before == after then filter (λ row. row.consumer == after) self.now else self.now) }
+    {
+        if before == after {
+            self.of(after)
+        } else {
+            self.table.as_slice()
+        }
     }
 
     /// Takes out the row with this id.
@@ -106,4 +118,24 @@ impl Memberships {
         self.owners.forget_all(consumer);
         self.table.remove_owned(consumer);
     }
+}
+
+// Copies of the rows of the row's consumer, with the row in the place of the one with its id.
+fn with_exchanged(alloc: Global, rows: &[AclRow], row: &AclRow) -> Result<List<AclRow>, NoMemory>
+    ensures { IfOk result (λ copies. copies ≡ filter (λ other. other.consumer == row.now.consumer) (map (exchange row.now) rows.now)) }
+{
+    let mut copies = List::new(alloc);
+    for other in rows {
+        let next = exchange(row, other);
+        if next.consumer == row.consumer {
+            copies.push(next.try_clone(alloc)?)?;
+        }
+    }
+    Ok(copies)
+}
+
+fn exchange<'a>(new: &'a AclRow, row: &'a AclRow) -> &'a AclRow
+    ensures { result.now ≡ exchange new.now row.now }
+{
+    if row.id == new.id { new } else { row }
 }

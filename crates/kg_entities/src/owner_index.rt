@@ -1,15 +1,15 @@
 //! The memberships of each consumer.
 
-ghost use Rattle.std.specs.Prelude.{◌≡◌, ◌==◌, ℕ, [], filter, not, IfOk, OnOk, OnErr, if◌then◌else◌};
+ghost use Rattle.std.specs.Prelude.{◌≡◌, ◌==◌, ℕ, [], filter, not, OnOk, OnErr, if◌then◌else◌};
 ghost use Rattle.kg_entities.specs.OwnerIndexes.{listed, with_row, exchanged};
 
 use indexmap::IndexMap;
 use kg_row_types::consumer::AclRow;
 use kg_row_types::id::Id;
-use kg_text::{List, NoMemory, TryClone};
+use kg_text::{List, NoMemory};
 use std::alloc::Global;
 
-/// For each consumer a copy of each of its rows, in any order.
+/// For each consumer copies of its rows, in their order.
 #[derive(Drop)]
 pub(crate) struct OwnerIndex {
     pub(crate) lists: IndexMap<Id, List<AclRow>>,
@@ -59,22 +59,20 @@ impl OwnerIndex {
         }
     }
 
-    /// The row takes the place of the one with its id, which is the consumer's `before`.
+    /// The consumer `after` has these rows, and `before`, if it is another, doesn't have the row with
+    /// this id any more.
     pub(crate) fn exchange(
         &mut self,
-        alloc: Global,
         before: Id,
-        row: AclRow,
+        after: Id,
+        id: Id,
+        rows: List<AclRow>,
     ) -> Result<(), NoMemory>
-        ensures ok { OnOk result ((consumer : ℕ) → listed self.new consumer ≡ exchanged before row consumer (listed self.old consumer)) }
+        ensures ok { OnOk result ((consumer : ℕ) → listed self.new consumer ≡ exchanged before after id rows consumer (listed self.old consumer)) }
         ensures err { OnErr result ((consumer : ℕ) → listed self.new consumer ≡ listed self.old consumer) }
     {
-        let consumer = row.consumer;
-        let id = row.id;
-        let mut rows = others(alloc, self.of(consumer), id)?;
-        rows.push(row)?;
-        self.lists.insert(consumer, rows)?;
-        if before != consumer {
+        self.lists.insert(after, rows)?;
+        if before != after {
             self.forget(before, id);
         }
         Ok(())
@@ -86,17 +84,4 @@ impl OwnerIndex {
     {
         self.lists.swap_remove(&consumer);
     }
-}
-
-// Copies of the rows but the one with this id.
-fn others(alloc: Global, rows: &[AclRow], id: Id) -> Result<List<AclRow>, NoMemory>
-    ensures { IfOk result (λ copies. copies ≡ filter (λ row. not (row.id == id)) rows.now) }
-{
-    let mut copies = List::new(alloc);
-    for row in rows {
-        if row.id != id {
-            copies.push(row.try_clone(alloc)?)?;
-        }
-    }
-    Ok(copies)
 }

@@ -1,12 +1,11 @@
 //! All rows.
 
-ghost use Rattle.std.specs.Prelude.{◌≡◌, ◌==◌, ◌&&◌, false, not, OnOk, OnErr};
+ghost use Rattle.std.specs.Prelude.{◌≡◌, ◌==◌, ◌&&◌, false, filter, not, OnOk, OnErr};
 ghost use Rattle.std.specs.List.{list_any};
 ghost use Rattle.std.specs.Str.{bytes_eq};
 ghost use Rattle.std.specs.Option.{option_copied};
 ghost use Rattle.kg_row_types.specs.Entities.{kind_of, id_of_row};
 ghost use Rattle.kg_row_types.specs.Lookups.{is_text, service_named, route_named, consumer_with_username, consumer_with_custom_id, cred_with_key, cred_with_username, named};
-ghost use Rattle.kg_entities.specs.OwnerIndexes.{AreRowsOf};
 ghost use Rattle.kg_row_types.specs.RowChanges.{has_row, count_of, inserted, updated, removed, without_plugins_of, without_credentials_of};
 ghost use Rattle.kg_row_types.specs.RowLists.{no_rows};
 
@@ -185,9 +184,9 @@ impl Rows {
         self.basic_creds.with_name(text)
     }
 
-    /// The memberships of a consumer, in any order.
+    /// The memberships of a consumer, in the order of insertion.
     pub fn acls_of(&self, consumer: Id) -> &[AclRow]
-        ensures { AreRowsOf consumer result.now self.now.acls }
+        ensures { result.now ≡ filter (λ row. row.consumer == consumer) self.now.acls }
     {
         self.acls.of(consumer)
     }

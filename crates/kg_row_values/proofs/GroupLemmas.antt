@@ -8,7 +8,6 @@ use Rattle.std.specs.Cmp.Lexicographic.{slice_cmp}
 use Rattle.std.specs.List.{list_any, list_all}
 use Rattle.std.specs.List.Sorted.{IsStrictlySortedBy}
 use Rattle.std.specs.Str.{bytes_eq}
-use Rattle.kg_entities.specs.OwnerIndexes.{AreRowsOf}
 use Rattle.kg_row_types.specs.RowLists.{RowLists}
 use Rattle.kg_row_types.specs.ValidRows.{same_membership}
 use Rattle.kg_row_types.specs.declared.consumer.AclRow.{AclRow}
@@ -106,23 +105,34 @@ and_twice : (a b : Bool) → (a && (a && b)) ≡ (a && b)
 and_twice true b = refl
 and_twice false b = refl
 
+-- a test finds one among the rows of a consumer exactly where one of them passes
+any_own : (consumer : ℕ) (test : AclRow → Bool) (own acls : List AclRow) → own ≡ filter (λ row. row.consumer == consumer) acls
+    → list_any test own ≡ list_any (λ row. row.consumer == consumer && test row) acls
+any_own consumer test own acls is = ap (list_any test) is ∙ by acls
+  where
+    by : (rows : List AclRow) → list_any test (filter (λ row. row.consumer == consumer) rows) ≡ list_any (λ row. row.consumer == consumer && test row) rows
+    by [] = refl
+    by (row ∷ rows) =
+        (elim (row.consumer == consumer) as (λ b. list_any test (cond {A = List AclRow} b (row ∷ filter (λ other. other.consumer == consumer) rows) (filter (λ other. other.consumer == consumer) rows)) ≡ ((b && test row) || list_any (λ other. other.consumer == consumer && test other) rows))
+        [ true ↦ ap (λ rest. test row || rest) (by rows) | false ↦ by rows ])
+
 -- the rows of a consumer tell its groups
-pub groups_alike : (consumer : ℕ) (own acls : List AclRow) → AreRowsOf consumer own acls → groups_of consumer own ≡ groups_of consumer acls
-groups_alike consumer own acls are =
+pub groups_alike : (consumer : ℕ) (own acls : List AclRow) → own ≡ filter (λ row. row.consumer == consumer) acls → groups_of consumer own ≡ groups_of consumer acls
+groups_alike consumer own acls is =
     same_sorted nat_list_cmp_total exact_bytes (groups_of consumer own) (groups_of consumer acls) (groups_ordered consumer own) (groups_ordered consumer acls)
     (λ t. in_set consumer own [] t
     ∙ sym (any_rows (λ x. is_eq (slice_cmp nat_cmp t x)) consumer own)
-    ∙ are (λ row. row.consumer == consumer && is_eq (slice_cmp nat_cmp t row.group))
+    ∙ any_own consumer (λ row. row.consumer == consumer && is_eq (slice_cmp nat_cmp t row.group)) own acls is
     ∙ any_same (λ row. row.consumer == consumer && (row.consumer == consumer && is_eq (slice_cmp nat_cmp t row.group))) (λ row. row.consumer == consumer && is_eq (slice_cmp nat_cmp t row.group))
     (λ row. and_twice (row.consumer == consumer) (is_eq (slice_cmp nat_cmp t row.group))) acls
     ∙ any_rows (λ x. is_eq (slice_cmp nat_cmp t x)) consumer acls
     ∙ sym (in_set consumer acls [] t))
 
 -- a membership that another row has stands among the rows of its consumer
-pub taken_alike : (test : AclRow → Bool) (membership : AclRow) (own acls : List AclRow) → AreRowsOf membership.consumer own acls
+pub taken_alike : (test : AclRow → Bool) (membership : AclRow) (own acls : List AclRow) → own ≡ filter (λ row. row.consumer == membership.consumer) acls
     → list_any (λ other. test other && same_membership other membership) own ≡ list_any (λ other. test other && same_membership other membership) acls
-taken_alike test membership own acls are =
-    are (λ other. test other && same_membership other membership)
+taken_alike test membership own acls is =
+    any_own membership.consumer (λ other. test other && same_membership other membership) own acls is
     ∙ any_same (λ other. other.consumer == membership.consumer && (test other && same_membership other membership)) (λ other. test other && same_membership other membership)
     (λ other. by (other.consumer == membership.consumer) (test other) (bytes_eq other.group membership.group)) acls
   where

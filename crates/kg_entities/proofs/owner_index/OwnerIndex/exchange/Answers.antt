@@ -1,4 +1,4 @@
-use Rattle.std.proofs.Common.{Bool, cond, List, [], ◌∷◌, ◌++◌, nat_eq, filter, not, unwrap_or, sym, ap, ◌∙◌}
+use Rattle.std.proofs.Common.{Bool, cond, List, [], nat_eq, filter, not, unwrap_or, refl, sym, ap, ◌∙◌}
 use Rattle.indexmap.specs.IndexMap.{get}
 use Rattle.kg_row_types.specs.declared.consumer.AclRow.{AclRow}
 use Rattle.kg_entities.proofs.OwnerLemmas.{changed_list, exchange_other, is_false}
@@ -8,12 +8,11 @@ use Rattle.kg_entities.proofs.owner_index.OwnerIndex.exchange.Goals as goal
 pub returns-then-ne-clause-ok : goal.returns-then-ne-clause-ok
 returns-then-ne-clause-ok c = λ consumer.
     let lists = c.args.self.now.lists in
-    let row = c.args.row in
-    let keep : AclRow → Bool = λ other. not (nat_eq other.id row.id) in
+    let rows = c.args.rows in
+    let keep : AclRow → Bool = λ row. not (nat_eq row.id c.args.id) in
     let own : List AclRow = unwrap_or (get nat_eq lists consumer) [] in
-    let change : List AclRow → List AclRow = λ rows. filter keep rows ++ row ∷ [] in
     c.forget.ensures consumer
     ∙ ap (λ l. cond {A = List AclRow} (nat_eq c.args.before consumer) (filter keep l) l)
     (ap (λ o. unwrap_or o []) (c.in_ok-insert.ensures.updates.0 consumer)
-    ∙ changed_list (get nat_eq lists) row.consumer consumer c.of.result.now c.push.new.self change (sym c.of.ensures) (c.in_ok-push.ensures.ok ∙ ap (λ rows. rows ++ row ∷ []) c.in_ok-rows.ensures))
-    ∙ exchange_other keep c.args.before row.consumer consumer own (change own) (is_false (nat_eq c.args.before row.consumer) (sym c.ne.ensures ∙ c.if-ne.true))
+    ∙ changed_list (get nat_eq lists) c.args.after consumer (unwrap_or (get nat_eq lists c.args.after) []) rows (λ _. rows) refl refl)
+    ∙ exchange_other keep c.args.before c.args.after consumer own rows (is_false (nat_eq c.args.before c.args.after) (sym c.ne.ensures ∙ c.if-ne.true))
