@@ -1,17 +1,26 @@
 -- An object in which nothing is broken has members that are accepted, each by itself.
-use Rattle.std.proofs.Common.{◌≡◌, ℕ, List, [], ◌∷◌, ◌++◌, Option, Some, None, refl, sym, subst, ◌∙◌}
+use Rattle.std.proofs.Common.{◌≡◌, ℕ, if◌then◌else◌, List, [], ◌∷◌, ◌++◌, map, codes, Option, Some, None, is_some, option_and_then, refl, sym, subst, ap, ◌∙◌}
 use Rattle.std.proofs.lemmas.Map.Lookups.{exact_bytes}
 use Rattle.std.specs.Cmp.Lexicographic.{slice_cmp}
+use Rattle.std.specs.Option.{option_map_or}
 use Rattle.std.specs.Ordering.{nat_cmp, match_ordering}
 use Rattle.std.specs.declared.cmp.Ordering.{Ordering}
 use Rattle.std.specs.declared.cmp.Ordering.TheVariants.{Less, Equal, Greater}
-use Rattle.serde_json.specs.Data.{Data, null, boolean, number, string, array, object, Members, no_members, member}
-use Rattle.serde_json.specs.Find.{get_member}
+use Rattle.serde_json.specs.Data.{Data, null, boolean, number, string, array, object, no_items, item, Members, no_members, member}
+use Rattle.serde_json.specs.Find.{get, get_member}
+use Rattle.kg_row_types.specs.declared.entity.Kind.TheVariants as kind
+use Rattle.kg_field_rules.specs.TextRules.{kept}
+use Rattle.kg_field_rules.specs.declared.word.Word.{Word}
+use Rattle.kg_field_rules.specs.declared.word.Word.TheVariants as word
+use Rattle.kg_bodies.specs.Settings.{texts_at}
 use Rattle.kg_field_tables.specs.Accepted.{AcceptsMembers, IsAccepted}
-use Rattle.kg_field_tables.specs.BrokenRules.{faults_in, faults_inside, field_rule, told}
+use Rattle.kg_field_tables.specs.BrokenRules.{faults_in, faults_inside, field_faults, field_rule, told}
 use Rattle.kg_field_tables.specs.FieldTables.{field_of}
 use Rattle.kg_field_rules.specs.declared.rule.Rule.{Rule}
+use Rattle.kg_field_tables.specs.Judging.{is_set, judged, texts_of}
+use Rattle.kg_field_tables.specs.declared.shape.Shape.TheVariants as shape
 use Rattle.kg_field_tables.specs.declared.table.Table.{Table}
+use Rattle.kg_field_tables.specs.declared.table.Table.TheVariants as table
 
 nil_parts : {A : Type 0} (xs ys : List A) → xs ++ ys ≡ [] → (xs ≡ []) × (ys ≡ [])
 nil_parts [] ys h = (refl, h)
@@ -61,3 +70,34 @@ members_accepted (member l e rest) table front name d h found =
     let parts = first_faults l e rest table front h in
     at_order table front name l d e (get_member name rest) (slice_cmp nat_cmp name l) refl found parts.0
     (λ later. members_accepted rest table front name d parts.1 later)
+
+-- ---- the paths of a route
+
+-- the texts of a list that breaks no rule, as they are kept
+list_accepted : (kind : Word) (d : Data) → judged (shape.Texts kind) d ≡ None
+    → option_map_or (map (kept kind)) (option_and_then texts_of (if is_set d then (if is_some (judged (shape.Texts kind) d) then None else Some d) else None)) []
+    ≡ option_map_or (map (kept kind)) (texts_of d) []
+list_accepted kind null ok = refl
+list_accepted kind (boolean b) ok = cc
+list_accepted kind (number n) ok = cc
+list_accepted kind (string s) ok = cc
+list_accepted kind (object ms) ok = cc
+list_accepted kind (array no_items) ok = refl
+list_accepted kind (array (item first rest)) ok =
+    ap (λ (rule : Option Rule). option_map_or (map (kept kind)) (option_and_then texts_of (if is_some rule then None else Some (array (item first rest)))) []) ok
+
+-- of a body in which nothing is broken
+pub paths_accepted : (body : Data) → field_faults kind.Route body ≡ []
+    → texts_at word.RoutePath (codes "paths") body ≡ option_map_or (map (kept word.RoutePath)) (option_and_then texts_of (get (codes "paths") body)) []
+paths_accepted null ok = refl
+paths_accepted (boolean b) ok = refl
+paths_accepted (number n) ok = refl
+paths_accepted (string s) ok = refl
+paths_accepted (array ds) ok = refl
+paths_accepted (object ms) ok = at_member (get_member (codes "paths") ms) refl
+  where
+    at_member : (o : Option Data) → get_member (codes "paths") ms ≡ o
+        → option_map_or (map (kept word.RoutePath)) (option_and_then texts_of (option_and_then (λ d. if is_set d then (if is_some (judged (shape.Texts word.RoutePath) d) then None else Some d) else None) o)) []
+        ≡ option_map_or (map (kept word.RoutePath)) (option_and_then texts_of o) []
+    at_member None is = refl
+    at_member (Some d) is = list_accepted word.RoutePath d (members_accepted ms table.Route [] (codes "paths") d ok is).itself

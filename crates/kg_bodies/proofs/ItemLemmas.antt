@@ -1,13 +1,13 @@
 -- The items of a list and the members of an object, beside the data that they stand for.
-use Rattle.std.proofs.Common.{◌≡◌, ℕ, suc, ◌+◌, ◌<◌, ◌==◌, Bool, not, List, [], ◌∷◌, ◌++◌, length, get_or, drop, Option, Some, None, option_map, option_and_then, String, Global, refl, sym, ap, ◌∙◌, append_assoc, add-one, drop-cons, arith}
+use Rattle.std.proofs.Common.{◌≡◌, ℕ, suc, ◌+◌, ◌<◌, ◌==◌, Bool, not, List, [], ◌∷◌, ◌++◌, length, get_or, drop, Option, Some, None, option_map, option_and_then, refl, sym, ap, ◌∙◌, append_assoc, add-one, drop-cons, arith}
 use Rattle.std.proofs.Math.Seq.{drop-length}
 use Rattle.std.proofs.lemmas.Bool.Decides.{nat_tests}
 use Rattle.std.proofs.lemmas.List.{append-nil}
 use Rattle.serde_json.specs.Data.{Data, null, boolean, number, string, array, object, no_items, item}
 use Rattle.serde_json.specs.Find.{as_array, as_str}
-use Rattle.serde_json.specs.View.{view, items_view, members_view}
+use Rattle.serde_json.specs.View.{view, items_view}
 use Rattle.serde_json.specs.declared.value.Value.{Value}
-use Rattle.kg_field_tables.specs.Judging.{count_members, each_text, is_set}
+use Rattle.kg_field_tables.specs.Judging.{each_text, is_set}
 
 -- a list is set where it has items
 pub is_set-array : (value : Data) (items : List Value) (empty : Bool) → Some (items_view items) ≡ as_array value → empty ≡ (length items == 0) → not empty ≡ is_set value
@@ -20,11 +20,6 @@ is_set-array (array no_items) [] empty is len = ap not len
 is_set-array (array no_items) (first ∷ rest) empty is len = cc
 is_set-array (array (item d ds)) [] empty is len = cc
 is_set-array (array (item d ds)) (first ∷ rest) empty is len = rw len (grind (arith, nat_tests))
-
--- as many members as entries
-pub count_members-length : (entries : List (String Global × Value)) → count_members (members_view entries) ≡ length entries
-count_members-length [] = refl
-count_members-length (entry ∷ entries) = ap (λ n. n + 1) (count_members-length entries) ∙ add-one (length entries)
 
 -- ---- the texts of items
 

@@ -5,7 +5,7 @@ ghost use Rattle.serde_json.specs.View.{members_view, view};
 ghost use Rattle.kg_row_types.specs.PluginNames.{plugin_named};
 ghost use Rattle.kg_field_tables.specs.Accepted.{AcceptsMembers};
 ghost use Rattle.kg_field_tables.specs.BrokenRules.{faults_in, faults_inside, field_faults, field_rule, named_plugin, object_rule, table_inside, told};
-ghost use Rattle.kg_field_tables.specs.FieldTables.{depth_of, levels};
+ghost use Rattle.kg_field_tables.specs.Depths.{depth_of, levels};
 ghost use Rattle.kg_field_rules.specs.Rules.{in_order, tell};
 
 use crate::judge::{is_set, judged};

@@ -24,10 +24,11 @@ use std::alloc::{AllocError, AllocFailed, Global};
 pub struct Form {
     kind: Kind,
     body: Value,
+    ghost valid: { field_faults kind (view body) ≡ [] },
 }
 
 /// Why a body is refused.
-#[derive(Debug, PartialEq, Drop)]
+#[derive(Drop)]
 pub enum FormError {
     /// The rules that it breaks, in byte order of their paths.
     Violation(List<Broken>),
@@ -62,9 +63,10 @@ impl Form {
         self.kind
     }
 
-    /// The body, as it was read.
+    /// The body, as it was read. None of its fields breaks a rule.
     pub fn body(&self) -> &Value
-        ensures { result.now ≡ self.now.body }
+        ensures body { result.now ≡ self.now.body }
+        ensures valid { field_faults self.now.kind (view result.now) ≡ [] }
     {
         &self.body
     }

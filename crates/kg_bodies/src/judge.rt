@@ -5,12 +5,10 @@ pub mod headers;
 ghost use Rattle.std.specs.Prelude.{◌≡◌, ◌==◌, IfOk, Some, None, if◌then◌else◌, option_map, length};
 ghost use Rattle.std.specs.Str.{bytes_eq};
 ghost use Rattle.kg_field_rules.specs.declared.rule.Rule.TheVariants.{WrongType};
-ghost use Rattle.std.specs.Option.{option_map_or};
 ghost use Rattle.std.specs.List.{list_all, list_any};
-ghost use Rattle.serde_json.specs.Find.{as_object};
-ghost use Rattle.serde_json.specs.View.{number_view, view};
+ghost use Rattle.serde_json.specs.View.{members_view, number_view, view};
 ghost use Rattle.kg_field_rules.specs.Choices.{is_choice};
-ghost use Rattle.kg_field_tables.specs.Judging.{count_members, integer_rule, is_set, judged, list_rule, by_id, by_name, by_text, only_text, protocols_rule, reference_of, shape_rule, whole_rule};
+ghost use Rattle.kg_field_tables.specs.Judging.{by_id, by_member, by_name, by_text, integer_rule, is_set, judged, list_rule, only, protocols_rule, reference_of, set_members, shape_rule, whole_rule};
 ghost use Rattle.kg_field_rules.specs.TextRules.{choice_rule, has_form, is_longer, text_rule};
 
 use crate::judge::headers::headers_rule;
@@ -22,7 +20,7 @@ use kg_field_tables::reference::{Mention, Reference};
 use kg_field_tables::shape::Shape;
 use kg_row_types::id::Id;
 use kg_text::{List, NoMemory, Text};
-use serde_json::{Number, Value};
+use serde_json::{Map, Number, Value};
 use std::alloc::Global;
 
 /// The rule that a value breaks.
@@ -94,6 +92,7 @@ fn wrong_unless(fits: bool) -> Option<Rule>
 }
 
 /// The first rule that a list of texts breaks.
+#[tactic(auto, using(crate::proofs::ListLemmas::list_steps))]
 pub fn list_rule(alloc: Global, word: Word, texts: &List<Text>) -> Result<Option<Rule>, NoMemory>
     ensures { IfOk result (λ rule. rule ≡ list_rule word texts.now) }
 {
@@ -137,6 +136,7 @@ fn have_form(alloc: Global, word: Word, texts: &[Text]) -> Result<bool, NoMemory
     Ok(true)
 }
 
+#[tactic(auto, using(crate::proofs::ListLemmas::protocols_steps))]
 fn protocols_rule(alloc: Global, texts: &List<Text>) -> Result<Option<Rule>, NoMemory>
     ensures { IfOk result (λ rule. rule ≡ protocols_rule texts.now) }
 {
@@ -212,16 +212,55 @@ pub fn reference_of(
 ) -> Result<Result<Reference, Rule>, NoMemory>
     ensures { IfOk result (λ found. found ≡ reference_of how (view value.now)) }
 {
-    if let Some(text) = value.as_str() {
-        return by_text(alloc, how, text);
+    match value {
+        Value::String(text) => by_text(alloc, how, text.as_str()),
+        Value::Object(members) => match only_set(members) {
+            Some((name, value)) => by_member(alloc, how, name, value),
+            None => Ok(Err(Rule::WrongType)),
+        },
+        Value::Null => Ok(Err(Rule::WrongType)),
+        Value::Bool(_) => Ok(Err(Rule::WrongType)),
+        Value::Number(_) => Ok(Err(Rule::WrongType)),
+        Value::Array(_) => Ok(Err(Rule::WrongType)),
     }
-    if let Some(text) = only_text("id", value) {
-        return Ok(by_id(text));
+}
+
+// The only member that is set, with its name.
+fn only_set(members: &Map<String, Value>) -> Option<(&str, &Value)>
+    ensures { option_map (λ found. (found.0.now, view found.1.now)) result ≡ only (set_members (members_view members.now.entries)) }
+{
+    let mut found = None;
+    for (name, value) in members.iter() {
+        if is_set(value) {
+            match found {
+                Some(_) => return None,
+                None => found = Some((name.as_str(), value)),
+            }
+        }
     }
-    if let Some(text) = only_text(how.member(), value) {
-        return by_name(alloc, how, text);
+    found
+}
+
+// The row that a member names.
+fn by_member(
+    alloc: Global,
+    how: Mention,
+    name: &str,
+    value: &Value,
+) -> Result<Result<Reference, Rule>, NoMemory>
+    ensures { IfOk result (λ found. found ≡ by_member how (name.now, view value.now)) }
+{
+    let text = match value.as_str() {
+        Some(text) => text,
+        None => return Ok(Err(Rule::WrongType)),
+    };
+    if name == "id" {
+        Ok(by_id(text))
+    } else if name == how.member() {
+        by_name(alloc, how, text)
+    } else {
+        Ok(Err(Rule::WrongType))
     }
-    Ok(Err(Rule::WrongType))
 }
 
 fn by_text(alloc: Global, how: Mention, text: &str) -> Result<Result<Reference, Rule>, NoMemory>
@@ -251,25 +290,5 @@ fn by_name(alloc: Global, how: Mention, text: &str) -> Result<Result<Reference, 
     match text_rule(alloc, how.word(), text)? {
         Some(rule) => Ok(Err(rule)),
         None => Ok(Ok(Reference::Name(Text::from_str(alloc, text)?))),
-    }
-}
-
-// The text of the member of this name, where the object has no other.
-fn only_text<'v>(name: &str, value: &'v Value) -> Option<&'v str>
-    ensures { option_map (λ text. text.now) result ≡ only_text name.now (view value.now) }
-{
-    if count_members(value) == 1 {
-        value.get(name).and_then(Value::as_str)
-    } else {
-        None
-    }
-}
-
-fn count_members(value: &Value) -> usize
-    ensures { result ≡ option_map_or count_members (as_object (view value.now)) 0 }
-{
-    match value.as_object() {
-        Some(members) => members.len(),
-        None => 0,
     }
 }

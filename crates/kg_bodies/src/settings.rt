@@ -1,7 +1,10 @@
 //! What a body sets, field by field. A value that breaks a rule of its field sets nothing.
 
-ghost use Rattle.std.specs.Prelude.{◌≡◌, ◌≤◌, ◌≤ℤ◌, IfOk, IfSome, option_map};
+ghost use Rattle.std.specs.Prelude.{◌≡◌, ◌≤◌, ◌≤ℤ◌, [], IfOk, IfSome, codes, option_map};
 ghost use Rattle.serde_json.specs.View.{view};
+ghost use Rattle.kg_row_types.specs.declared.entity.Kind.TheVariants as kind;
+ghost use Rattle.kg_field_rules.specs.declared.word.Word.TheVariants as word;
+ghost use Rattle.kg_field_tables.specs.BrokenRules.{field_faults};
 ghost use Rattle.kg_bodies.specs.Settings.{flag_at, https_at, id_at, integer_at, limit_by_at, reference_at, size_unit_at, text_at, texts_at, url_at, value_at, whole_at};
 
 use crate::judge::{has_text, is_set, judged, reference_of};
@@ -67,6 +70,21 @@ pub fn texts_at(alloc: Global, word: Word, name: &str, body: &Value) -> Result<L
     }
 }
 
+/// The paths of a route, as they are kept. They were judged with the body, and aren't judged again.
+#[tactic(auto, using(crate::proofs::AcceptedLemmas::paths_accepted))]
+pub fn paths_at(alloc: Global, body: &Value) -> Result<List<Text>, NoMemory>
+    requires { field_faults kind.Route (view body.now) ≡ [] }
+    ensures { IfOk result (λ found. found ≡ texts_at word.RoutePath (codes "paths") (view body.now)) }
+{
+    match body.get("paths") {
+        Some(value) => match texts_of(alloc, value)? {
+            Some(texts) => kept_texts(alloc, Word::RoutePath, texts.as_slice()),
+            None => Ok(List::new(alloc)),
+        },
+        None => Ok(List::new(alloc)),
+    }
+}
+
 /// A whole number from low to high.
 pub fn whole_at(
     alloc: Global,
@@ -95,6 +113,7 @@ pub fn integer_at(
     Ok(value_at(alloc, Shape::Integer { low, high }, name, body)?.and_then(Value::as_i64))
 }
 
+/// True or false.
 pub fn flag_at(name: &str, body: &Value) -> Option<bool>
     ensures { result ≡ flag_at name.now (view body.now) }
 {

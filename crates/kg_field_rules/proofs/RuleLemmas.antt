@@ -1,22 +1,20 @@
 -- Which of several rules counts, and that told faults aren't lost.
-use Rattle.std.proofs.Common.{◌≡◌, nat_le, Bool, true, false, List, [], ◌∷◌, fold, Option, Some, None, if◌then◌else◌, refl, sym, ap, ◌∙◌, arith}
+use Rattle.std.proofs.Common.{◌≡◌, nat_le, Bool, true, false, not, List, [], ◌∷◌, ◌++◌, fold, Option, Some, None, if◌then◌else◌, refl, sym, ap, ◌∙◌, arith}
 use Rattle.std.proofs.lemmas.Bool.Decides.{nat_tests}
 use Rattle.std.specs.BTreeMap.{insert_entry}
 use Rattle.std.specs.Cmp.Lexicographic.{slice_cmp}
 use Rattle.std.specs.Ordering.{nat_cmp, match_ordering}
 use Rattle.std.specs.declared.cmp.Ordering.{Ordering}
 use Rattle.std.specs.declared.cmp.Ordering.TheVariants.{Less, Equal, Greater}
-use Rattle.kg_field_rules.specs.Rules.{Fault, in_order, rank, sooner, tell}
+use Rattle.kg_field_rules.specs.Rules.{Fault, broken_if, first, first_by_rank, in_order, rank, sooner, tell}
 use Rattle.kg_field_rules.specs.declared.rule.Rule.{Rule}
+use Rattle.kg_field_rules.specs.declared.rule.Rule.TheVariants.{Empty, OutOfRange, Syntax}
 
 -- ---- the rule that counts
 
 pub sooner_none : (rule : Option Rule) → sooner rule None ≡ rule
 sooner_none None = refl
 sooner_none (Some rule) = refl
-
-abbrev first : Rule → Rule → Rule
-first a b = if nat_le (rank a) (rank b) then a else b
 
 -- by the ranks alone
 first_assoc : (a b c : Rule) → first (first a b) c ≡ first a (first b c)
@@ -33,18 +31,37 @@ first_assoc a b c = at_tests (nat_le (rank a) (rank b)) (nat_le (rank b) (rank c
 pub sooner_assoc : (a b c : Option Rule) → sooner (sooner a b) c ≡ sooner a (sooner b c)
 sooner_assoc None b c = refl
 sooner_assoc (Some a) None c = refl
-sooner_assoc (Some a) (Some b) None = sooner_none (sooner (Some a) (Some b))
-sooner_assoc (Some a) (Some b) (Some c) = out ∙ ap Some (first_assoc a b c) ∙ back
-  where
-    some_if : (t : Bool) (x y : Rule) → (if t then Some x else Some y) ≡ Some (if t then x else y)
-    some_if true x y = refl
-    some_if false x y = refl
+sooner_assoc (Some a) (Some b) None = refl
+sooner_assoc (Some a) (Some b) (Some c) = ap Some (first_assoc a b c)
 
-    out : sooner (sooner (Some a) (Some b)) (Some c) ≡ Some (first (first a b) c)
-    out = ap (λ o. sooner o (Some c)) (some_if (nat_le (rank a) (rank b)) a b) ∙ some_if (nat_le (rank (first a b)) (rank c)) (first a b) c
+-- ---- the first of several
 
-    back : Some (first a (first b c)) ≡ sooner (Some a) (sooner (Some b) (Some c))
-    back = sym (ap (sooner (Some a)) (some_if (nat_le (rank b) (rank c)) b c) ∙ some_if (nat_le (rank a) (rank (first b c))) a (first b c))
+-- the first of two lists, by the first of each
+pub first_of_both : (broken others : List Rule) → first_by_rank (broken ++ others) ≡ sooner (first_by_rank broken) (first_by_rank others)
+first_of_both [] others = refl
+first_of_both (rule ∷ broken) others =
+    ap (sooner (Some rule)) (first_of_both broken others) ∙ sym (sooner_assoc (Some rule) (first_by_rank broken) (first_by_rank others))
+
+sooner_some : (rule : Rule) (o : Option Rule) → sooner (Some rule) o ≡ None → ⊥
+sooner_some rule None h = cc
+sooner_some rule (Some other) h = cc
+
+-- where no rule is told, none is broken
+pub nothing_broken : (broken : List Rule) → first_by_rank broken ≡ None → broken ≡ []
+nothing_broken [] h = refl
+nothing_broken (rule ∷ broken) h = absurd (sooner_some rule (first_by_rank broken) h)
+
+-- the rule of a text, one test after the other
+pub text_steps : (empty longer form : Bool) → first_by_rank (broken_if empty Empty ++ broken_if longer OutOfRange ++ broken_if (not form) Syntax)
+    ≡ (if empty then Some Empty else (if longer then Some OutOfRange else (if form then None else Some Syntax)))
+text_steps true true true = refl
+text_steps true true false = refl
+text_steps true false true = refl
+text_steps true false false = refl
+text_steps false true true = refl
+text_steps false true false = refl
+text_steps false false true = refl
+text_steps false false false = refl
 
 -- ---- told faults
 

@@ -1,9 +1,10 @@
--- Broken rules of a body: their words, which of two counts, and the list that is told. The words and
+-- Broken rules of a body: their words, which of them is told, and the list of all that are told. The words and
 -- their order are this project's own.
-use Rattle.std.specs.Prelude.{ℕ, List, [], map, fold, Option, Some, None, unwrap_or, codes, nat_le, if◌then◌else◌}
+use Rattle.std.specs.Prelude.{ℕ, Bool, List, [], ◌∷◌, map, fold, Option, Some, None, codes, nat_le, if◌then◌else◌}
 use Rattle.std.specs.BTreeMap.{insert_entry, is_at}
 use Rattle.std.specs.Cmp.Lexicographic.{slice_cmp}
 use Rattle.std.specs.Map.{lookup}
+use Rattle.std.specs.Option.{option_map_or}
 use Rattle.std.specs.Ordering.{nat_cmp}
 use Rattle.kg_field_rules.specs.declared.fault.Broken.{Broken}
 use Rattle.kg_field_rules.specs.declared.rule.Rule.{Rule}
@@ -35,11 +36,24 @@ rank Repeated = 7
 rank Exclusive = 8
 rank Required = 9
 
--- the one that counts, of two rules that may be broken
+-- the one that counts, of two broken rules
+abbrev pub first : Rule → Rule → Rule
+first rule other = if nat_le (rank rule) (rank other) then rule else other
+
+-- and of two rules that may be broken
 abbrev pub sooner : Option Rule → Option Rule → Option Rule
 sooner None other = other
 sooner (Some rule) None = Some rule
-sooner (Some rule) (Some other) = if nat_le (rank rule) (rank other) then Some rule else Some other
+sooner (Some rule) (Some other) = Some (first rule other)
+
+-- a rule, where it is broken
+abbrev pub broken_if : Bool → Rule → List Rule
+broken_if broken rule = if broken then rule ∷ [] else []
+
+-- the one that is told, of all rules that are broken: the first by rank
+abbrev pub first_by_rank : List Rule → Option Rule
+first_by_rank [] = None
+first_by_rank (rule ∷ others) = sooner (Some rule) (first_by_rank others)
 
 -- a rule that is broken, with the path of its field
 abbrev pub Fault : Type 0
@@ -47,7 +61,7 @@ Fault = List ℕ × Rule
 
 -- the rule that counts at a path, where one more is told there
 abbrev pub counted : List Fault → List ℕ → Rule → Rule
-counted faults path rule = unwrap_or (sooner (lookup (is_at (slice_cmp nat_cmp path)) faults) (Some rule)) rule
+counted faults path rule = option_map_or (λ told. first told rule) (lookup (is_at (slice_cmp nat_cmp path)) faults) rule
 
 -- the faults with one more: in byte order of their paths, each path once
 abbrev pub tell : List Fault → Fault → List Fault

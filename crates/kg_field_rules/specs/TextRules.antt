@@ -1,12 +1,13 @@
 -- Which rule a text breaks, and what is kept of one that breaks none.
-use Rattle.std.specs.Prelude.{ℕ, ◌==◌, Bool, false, List, length, nat_lt, Option, Some, None, is_some, if◌then◌else◌}
+use Rattle.std.specs.Prelude.{ℕ, ◌==◌, Bool, false, not, List, ◌++◌, length, nat_lt, Option, Some, None, is_some}
 use Rattle.std.specs.Option.{option_map_or}
 use Rattle.std.specs.Str.{str_to_ascii_lowercase}
 use Rattle.kg_text.specs.Names.{is_token}
-use Rattle.kg_row_types.specs.ConfigWords.{has_ipv4_block_form, has_edit_form, has_header_edit_form, has_header_rename_form}
+use Rattle.kg_row_types.specs.ConfigWords.{is_ipv4_block, has_edit_form, has_header_edit_form, has_header_rename_form}
 use Rattle.kg_row_types.specs.Ids.{id_of, printed}
 use Rattle.kg_row_types.specs.Words.{has_name_form, has_no_controls, has_username_form, has_host_form, has_route_host_form, is_normal_path, has_route_path_form, has_method_form}
 use Rattle.kg_field_rules.specs.Choices.{is_choice}
+use Rattle.kg_field_rules.specs.Rules.{broken_if, first_by_rank}
 use Rattle.kg_field_rules.specs.Urls.{url_of}
 use Rattle.kg_field_rules.specs.declared.rule.Rule.{Rule}
 use Rattle.kg_field_rules.specs.declared.rule.Rule.TheVariants.{Empty, OutOfRange, OneOf, Syntax}
@@ -29,7 +30,7 @@ longest word.Host = Some 255
 longest word.RouteHost = Some 255
 longest word.Method = Some 255
 longest word.Token = Some 255
-longest word.AddressBlock = Some 255
+longest word.AddressBlock = None
 longest word.Edit = Some 255
 longest word.HeaderEdit = Some 255
 longest word.HeaderRename = Some 255
@@ -49,7 +50,7 @@ has_form word.Host text = has_host_form text
 has_form word.RouteHost text = has_route_host_form text
 has_form word.Method text = has_method_form text
 has_form word.Token text = is_token text
-has_form word.AddressBlock text = has_ipv4_block_form text
+has_form word.AddressBlock text = is_ipv4_block text
 has_form word.Edit text = has_edit_form text
 has_form word.HeaderEdit text = has_header_edit_form text
 has_form word.HeaderRename text = has_header_rename_form text
@@ -57,21 +58,20 @@ has_form word.HeaderRename text = has_header_rename_form text
 abbrev pub is_longer : Word → List ℕ → Bool
 is_longer kind text = option_map_or (λ most. nat_lt most (length text)) (longest kind) false
 
--- the rule that an empty text breaks: every fault of a url is one of its syntax
-abbrev pub rule_of_empty : Word → Rule
-rule_of_empty word.Url = Syntax
-rule_of_empty _ = Empty
+-- the rules that a text breaks
+abbrev pub text_breaks : Word → List ℕ → List Rule
+text_breaks kind text =
+    broken_if (length text == 0) Empty
+    ++ broken_if (is_longer kind text) OutOfRange
+    ++ broken_if (not (has_form kind text)) Syntax
 
--- the first rule that a text breaks
+-- the one that is told
 abbrev pub text_rule : Word → List ℕ → Option Rule
-text_rule kind text =
-    if length text == 0 then Some (rule_of_empty kind)
-    else (if is_longer kind text then Some OutOfRange
-    else (if has_form kind text then None else Some Syntax))
+text_rule kind text = first_by_rank (text_breaks kind text)
 
 -- the rule that a text breaks which has to be one of a few
 abbrev pub choice_rule : Choice → List ℕ → Option Rule
-choice_rule choice text = if is_choice choice text then None else Some OneOf
+choice_rule choice text = first_by_rank (broken_if (not (is_choice choice text)) OneOf)
 
 -- what is kept of a text: hosts of routes are in lower case, and an id that stands for requests
 -- without a consumer is printed

@@ -1,4 +1,4 @@
--- The parts of a url, where they stand in its text.
+-- Machinery for proofs: the parts of a url, where they stand in its text.
 use Rattle.std.specs.Prelude.{option_map, IfSome}
 use Rattle.std.specs.Str.{IsAscii}
 use Rattle.kg_field_rules.specs.declared.url.Url.{Url}

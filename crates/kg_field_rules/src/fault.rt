@@ -8,7 +8,7 @@ ghost use Rattle.std.specs.Map.{keys_of};
 ghost use Rattle.std.specs.Ordering.{nat_cmp};
 ghost use Rattle.kg_field_rules.specs.Rules.{counted, listed, tell};
 
-use crate::rule::{Rule, sooner};
+use crate::rule::{Rule, first};
 use kg_text::{List, NoMemory, Text};
 use std::alloc::Global;
 use std::collections::BTreeMap;
@@ -24,7 +24,7 @@ pub struct Broken {
 
 /// Broken rules, each path once, with the rule that counts there. Contracts see the list of paths
 /// and rules in byte order of the paths.
-#[derive(Debug, Drop)]
+#[derive(Drop)]
 pub struct Faults {
     rules: BTreeMap<Text, Rule>,
 }
@@ -68,7 +68,7 @@ impl Faults {
         ensures { result ≡ counted self.now path.now rule }
     {
         match self.rules.get(path) {
-            Some(told) => sooner(Some(*told), Some(rule)).unwrap_or(rule),
+            Some(told) => first(*told, rule),
             None => rule,
         }
     }

@@ -1,7 +1,7 @@
 //! The rules that a body can break.
 
 ghost use Rattle.std.specs.Prelude.{◌≡◌};
-ghost use Rattle.kg_field_rules.specs.Rules.{rank, rule_word, sooner};
+ghost use Rattle.kg_field_rules.specs.Rules.{first, rank, rule_word, sooner};
 
 /// A rule that a field can break. Of several at one field the first in the order of this list
 /// counts (this project's own).
@@ -66,21 +66,26 @@ impl Rule {
     }
 }
 
+/// The one that counts, of two broken rules.
+pub fn first(rule: Rule, other: Rule) -> Rule
+    ensures { result ≡ first rule other }
+{
+    if rule.rank() <= other.rank() {
+        rule
+    } else {
+        other
+    }
+}
+
 /// The one that counts, of two rules that may be broken.
 pub fn sooner(rule: Option<Rule>, other: Option<Rule>) -> Option<Rule>
     ensures { result ≡ sooner rule other }
 {
     match rule {
         None => other,
-        Some(first) => match other {
-            None => Some(first),
-            Some(second) => {
-                if first.rank() <= second.rank() {
-                    Some(first)
-                } else {
-                    Some(second)
-                }
-            }
+        Some(one) => match other {
+            None => Some(one),
+            Some(another) => Some(first(one, another)),
         },
     }
 }

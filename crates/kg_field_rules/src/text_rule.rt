@@ -10,7 +10,7 @@ ghost use Rattle.kg_field_rules.specs.Choices.{is_choice};
 ghost use Rattle.kg_field_rules.specs.TextRules.{choice_rule, has_form, is_longer, text_rule};
 
 use crate::rule::Rule;
-use crate::text_rule::block::has_ipv4_block_form;
+use crate::text_rule::block::is_ipv4_block;
 use crate::text_rule::edit::{has_edit_form, has_header_edit_form, has_header_rename_form};
 use crate::text_rule::forms::{
     has_host_form, has_method_form, has_name_form, has_no_controls, has_route_host_form,
@@ -25,11 +25,12 @@ use kg_text::NoMemory;
 use std::alloc::Global;
 
 /// The first rule that a text of a kind breaks.
+#[tactic(auto, using(crate::proofs::RuleLemmas::text_steps))]
 pub fn text_rule(alloc: Global, word: Word, text: &str) -> Result<Option<Rule>, NoMemory>
     ensures { IfOk result (λ rule. rule ≡ text_rule word text.now) }
 {
     if text.is_empty() {
-        return Ok(Some(word.rule_of_empty()));
+        return Ok(Some(Rule::Empty));
     }
     if is_longer(word, text) {
         return Ok(Some(Rule::OutOfRange));
@@ -69,7 +70,7 @@ pub fn has_form(alloc: Global, word: Word, text: &str) -> Result<bool, NoMemory>
         Word::RouteHost => Ok(has_route_host_form(text.as_bytes())),
         Word::Method => Ok(has_method_form(text.as_bytes())),
         Word::Token => Ok(is_token(text.as_bytes())),
-        Word::AddressBlock => has_ipv4_block_form(alloc, text.as_bytes()),
+        Word::AddressBlock => is_ipv4_block(alloc, text.as_bytes()),
         Word::Edit => Ok(has_edit_form(text)),
         Word::HeaderEdit => Ok(has_header_edit_form(text)),
         Word::HeaderRename => Ok(has_header_rename_form(text)),

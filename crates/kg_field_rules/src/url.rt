@@ -11,7 +11,7 @@ use kg_text::{NoMemory, Text};
 use std::alloc::Global;
 
 /// Where a service's url leads to.
-#[derive(Debug, PartialEq, Drop)]
+#[derive(Drop)]
 pub struct Url {
     pub host: Text,
     pub port: u16,
@@ -19,7 +19,7 @@ pub struct Url {
 }
 
 /// The parts of a url, where they stand.
-#[derive(Debug, Drop)]
+#[derive(Drop)]
 pub struct UrlParts<'u> {
     host: &'u [u8],
     port: u16,

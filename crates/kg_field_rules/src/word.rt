@@ -1,12 +1,10 @@
 //! The kinds of texts that fields take.
 
 ghost use Rattle.std.specs.Prelude.{◌≡◌};
-ghost use Rattle.kg_field_rules.specs.TextRules.{longest, rule_of_empty};
-
-use crate::rule::Rule;
+ghost use Rattle.kg_field_rules.specs.TextRules.{longest};
 
 /// A kind of text. What each takes, and how long it can be, stands in `specs/TextRules.antt`.
-#[derive(Clone, Copy, Debug, PartialEq, Eq)]
+#[derive(Clone, Copy)]
 pub enum Word {
     /// The id of a row.
     Id,
@@ -45,7 +43,7 @@ pub enum Word {
 }
 
 /// A few texts of which a field takes one.
-#[derive(Clone, Copy, Debug, PartialEq, Eq)]
+#[derive(Clone, Copy)]
 pub enum Choice {
     /// The names of the plugins.
     Plugin,
@@ -76,34 +74,10 @@ impl Word {
             Word::RouteHost => Some(255),
             Word::Method => Some(255),
             Word::Token => Some(255),
-            Word::AddressBlock => Some(255),
+            Word::AddressBlock => None,
             Word::Edit => Some(255),
             Word::HeaderEdit => Some(255),
             Word::HeaderRename => Some(255),
-        }
-    }
-    /// The rule that an empty text of this kind breaks: every fault of a url is one of its syntax.
-    pub fn rule_of_empty(self) -> Rule
-        ensures { result ≡ rule_of_empty self }
-    {
-        match self {
-            Word::Url => Rule::Syntax,
-            Word::Id => Rule::Empty,
-            Word::Path => Rule::Empty,
-            Word::RoutePath => Rule::Empty,
-            Word::LongText => Rule::Empty,
-            Word::Name => Rule::Empty,
-            Word::FreeText => Rule::Empty,
-            Word::Username => Rule::Empty,
-            Word::Anonymous => Rule::Empty,
-            Word::Host => Rule::Empty,
-            Word::RouteHost => Rule::Empty,
-            Word::Method => Rule::Empty,
-            Word::Token => Rule::Empty,
-            Word::AddressBlock => Rule::Empty,
-            Word::Edit => Rule::Empty,
-            Word::HeaderEdit => Rule::Empty,
-            Word::HeaderRename => Rule::Empty,
         }
     }
 }

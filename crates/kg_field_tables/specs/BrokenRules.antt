@@ -78,11 +78,7 @@ abbrev mutual
   -- the faults inside the value of a field: a dot stands between the names
   pub faults_inside : Data → Field → List ℕ → List Fault
   faults_inside (object members) field path = option_map_or (λ table. faults_in members table (path ++ codes ".")) (table_inside field) []
-  faults_inside null field path = []
-  faults_inside (boolean b) field path = []
-  faults_inside (number n) field path = []
-  faults_inside (string s) field path = []
-  faults_inside (array ds) field path = []
+  faults_inside _ field path = []
 
 -- the plugin that a body names, if there is one of that name
 abbrev pub named_plugin : Data → Option PluginName

@@ -2,7 +2,7 @@
 -- Admin API and the pages of the plugins; the bounds are this project's own). `Judged` fields are read,
 -- `Fixed` ones take one value alone, `Dropped` ones are ignored, and those `Inside` are objects with a
 -- table of their own.
-use Rattle.std.specs.Prelude.{ℕ, ◌+◌, pos, neg_ℤ, true, false, List, [], ◌∷◌, Option, Some, None, unwrap_or, codes}
+use Rattle.std.specs.Prelude.{ℕ, pos, neg_ℤ, true, false, List, [], ◌∷◌, Option, Some, None, unwrap_or, codes}
 use Rattle.std.specs.Map.{lookup}
 use Rattle.std.specs.Str.{bytes_eq}
 use Rattle.kg_row_types.specs.declared.entity.Kind.{Kind}
@@ -31,6 +31,19 @@ Fields = List (List ℕ × Field)
 abbrev pub row_fields : Fields
 row_fields = (codes "id", Judged (Text word.Id)) ∷ (codes "created_at", Dropped) ∷ (codes "updated_at", Dropped) ∷ []
 
+-- tags, timeouts and certificates, which a service has no use for
+abbrev pub other_service_fields : Fields
+other_service_fields =
+    (codes "connect_timeout", Dropped)
+    ∷ (codes "read_timeout", Dropped)
+    ∷ (codes "write_timeout", Dropped)
+    ∷ (codes "tags", Dropped)
+    ∷ (codes "ca_certificates", Dropped)
+    ∷ (codes "client_certificate", Dropped)
+    ∷ (codes "tls_verify", Dropped)
+    ∷ (codes "tls_verify_depth", Dropped)
+    ∷ row_fields
+
 abbrev pub service_fields : Fields
 service_fields =
     (codes "name", Judged (Text word.Name))
@@ -41,14 +54,19 @@ service_fields =
     ∷ (codes "retries", Judged (Whole 0 32767))
     ∷ (codes "enabled", Judged Flag)
     ∷ (codes "url", Judged (Text word.Url))
-    ∷ (codes "connect_timeout", Dropped)
-    ∷ (codes "read_timeout", Dropped)
-    ∷ (codes "write_timeout", Dropped)
+    ∷ other_service_fields
+
+-- how paths are joined, what other protocols ask for, tags and buffers
+abbrev pub other_route_fields : Fields
+other_route_fields =
+    (codes "path_handling", Fixed (Phrase phrase.V0))
+    ∷ (codes "snis", Fixed Nothing)
+    ∷ (codes "sources", Fixed Nothing)
+    ∷ (codes "destinations", Fixed Nothing)
     ∷ (codes "tags", Dropped)
-    ∷ (codes "ca_certificates", Dropped)
-    ∷ (codes "client_certificate", Dropped)
-    ∷ (codes "tls_verify", Dropped)
-    ∷ (codes "tls_verify_depth", Dropped)
+    ∷ (codes "request_buffering", Dropped)
+    ∷ (codes "response_buffering", Dropped)
+    ∷ (codes "https_redirect_status_code", Dropped)
     ∷ row_fields
 
 abbrev pub route_fields : Fields
@@ -63,15 +81,7 @@ route_fields =
     ∷ (codes "regex_priority", Judged (Integer (neg_ℤ (pos 1000000)) (pos 1000000)))
     ∷ (codes "strip_path", Judged Flag)
     ∷ (codes "preserve_host", Judged Flag)
-    ∷ (codes "path_handling", Fixed (Phrase phrase.V0))
-    ∷ (codes "snis", Fixed Nothing)
-    ∷ (codes "sources", Fixed Nothing)
-    ∷ (codes "destinations", Fixed Nothing)
-    ∷ (codes "tags", Dropped)
-    ∷ (codes "request_buffering", Dropped)
-    ∷ (codes "response_buffering", Dropped)
-    ∷ (codes "https_redirect_status_code", Dropped)
-    ∷ row_fields
+    ∷ other_route_fields
 
 abbrev pub consumer_fields : Fields
 consumer_fields =
@@ -276,8 +286,11 @@ fields (table.RequestEdits edits) = request_edit_fields edits
 fields (table.ResponseEdits edits) = response_edit_fields edits
 
 -- the field of this name
+abbrev pub field_among : Fields → List ℕ → Field
+field_among listed name = unwrap_or (lookup (bytes_eq name) listed) Unknown
+
 abbrev pub field_of : Table → List ℕ → Field
-field_of table name = unwrap_or (lookup (bytes_eq name) (fields table)) Unknown
+field_of table name = field_among (fields table) name
 
 -- the table of a kind; a plugin's hangs on the name that the body gives
 abbrev pub table_of : Kind → Option PluginName → Table
@@ -288,14 +301,3 @@ table_of kind.KeyCred name = table.KeyCred
 table_of kind.BasicCred name = table.BasicCred
 table_of kind.Acl name = table.Acl
 table_of kind.Plugin name = table.Plugin name
-
--- how many tables can lie one inside the other, below a table
-abbrev pub levels : Table → ℕ
-levels (table.Plugin name) = 2
-levels (table.Config name) = 1
-levels _ = 0
-
--- and below a field
-abbrev pub depth_of : Field → ℕ
-depth_of (Inside table) = levels table + 1
-depth_of _ = 0

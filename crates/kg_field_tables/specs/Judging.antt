@@ -1,17 +1,17 @@
 -- Which rule the value of a field breaks, by the shape that the field has (JSON: RFC 8259). null and
 -- the empty list count as not set, and what isn't set breaks no rule of a shape.
-use Rattle.std.specs.Prelude.{ℕ, ◌==◌, ◌+◌, ℤ, int_le, Bool, true, false, not, ◌&&◌, ◌||◌, nat_lt, nat_le, List, [], ◌∷◌, length, map, codes, if◌then◌else◌, Option, Some, None, option_map, option_and_then, Result, Ok, Err}
+use Rattle.std.specs.Prelude.{ℕ, ◌==◌, ℤ, int_le, Bool, true, false, not, ◌&&◌, nat_lt, nat_le, List, [], ◌∷◌, ◌++◌, length, map, flat_map, codes, if◌then◌else◌, Option, Some, None, option_map, option_and_then, Result, Ok, Err}
 use Rattle.std.specs.Option.{option_map_or}
 use Rattle.std.specs.List.{list_all, list_any}
 use Rattle.std.specs.Str.{bytes_eq, str_to_ascii_lowercase}
 use Rattle.serde_json.specs.Data.{Data, null, boolean, number, string, array, object, Num, Items, no_items, item, Members, no_members, member}
-use Rattle.serde_json.specs.Find.{as_bool, as_number, as_str, as_array, as_object, as_u64, as_i64, is_float, get}
+use Rattle.serde_json.specs.Find.{as_bool, as_number, as_str, as_array, as_object, as_u64, as_i64, is_float}
 use Rattle.kg_text.specs.Names.{is_token}
 use Rattle.kg_row_types.specs.Ids.{id_of}
 use Rattle.kg_row_types.specs.Words.{are_distinct}
-use Rattle.kg_field_rules.specs.TextRules.{has_form, is_longer, text_rule, choice_rule, kept}
+use Rattle.kg_field_rules.specs.TextRules.{text_breaks, text_rule, choice_rule, kept}
 use Rattle.kg_field_rules.specs.Choices.{is_choice}
-use Rattle.kg_field_rules.specs.Rules.{sooner}
+use Rattle.kg_field_rules.specs.Rules.{broken_if, first_by_rank}
 use Rattle.kg_field_tables.specs.declared.reference.Mention.{Mention}
 use Rattle.kg_field_tables.specs.declared.reference.Mention.TheVariants as mention
 use Rattle.kg_field_tables.specs.declared.reference.Reference.{Reference}
@@ -34,6 +34,11 @@ is_set (array no_items) = false
 is_set (array (item first rest)) = true
 is_set (object ms) = true
 
+-- the members of an object that are set, by name: the others count as not there
+abbrev pub set_members : Members → List (List ℕ × Data)
+set_members no_members = []
+set_members (member name d rest) = if is_set d then (name, d) ∷ set_members rest else set_members rest
+
 -- the rule of a value that has the wanted type
 abbrev pub typed : {A : Type 0} → (A → Option Rule) → Option A → Option Rule
 typed rule value = option_map_or rule value (Some WrongType)
@@ -48,20 +53,28 @@ each_text (item first rest) = option_and_then (λ text. option_map (λ more. tex
 abbrev pub texts_of : Data → Option (List (List ℕ))
 texts_of d = option_and_then each_text (as_array d)
 
--- the first rule that a list breaks: it has at most 64 texts, no two of which are kept alike
-abbrev pub list_rule : Word → List (List ℕ) → Option Rule
-list_rule kind texts =
-    if list_any (λ text. length text == 0) texts then Some Empty
-    else (if nat_lt 64 (length texts) || list_any (is_longer kind) texts then Some OutOfRange
-    else (if not (list_all (has_form kind) texts) then Some Syntax
-    else (if not (are_distinct (map (kept kind) texts)) then Some Repeated else None)))
+-- the rules that a list breaks: it has at most 64 texts, no two of which are kept alike
+abbrev pub list_breaks : Word → List (List ℕ) → List Rule
+list_breaks kind texts =
+    flat_map (text_breaks kind) texts
+    ++ broken_if (nat_lt 64 (length texts)) OutOfRange
+    ++ broken_if (not (are_distinct (map (kept kind) texts))) Repeated
 
--- the protocols of a route, of which http is one
+-- the one that is told
+abbrev pub list_rule : Word → List (List ℕ) → Option Rule
+list_rule kind texts = first_by_rank (list_breaks kind texts)
+
+-- the rules that the protocols of a route break, of which http is one
+abbrev pub protocols_breaks : List (List ℕ) → List Rule
+protocols_breaks texts =
+    broken_if (nat_lt 64 (length texts)) OutOfRange
+    ++ broken_if (not (list_all (is_choice choice.Protocol) texts)) OneOf
+    ++ broken_if (not (list_any (bytes_eq (codes "http")) texts)) OneOf
+    ++ broken_if (not (are_distinct texts)) Repeated
+
+-- the one that is told
 abbrev pub protocols_rule : List (List ℕ) → Option Rule
-protocols_rule texts =
-    if nat_lt 64 (length texts) then Some OutOfRange
-    else (if not (list_all (is_choice choice.Protocol) texts && list_any (bytes_eq (codes "http")) texts) then Some OneOf
-    else (if not (are_distinct texts) then Some Repeated else None))
+protocols_rule texts = first_by_rank (protocols_breaks texts)
 
 -- ---- numbers
 
@@ -99,55 +112,53 @@ by_name how text = option_map_or (λ rule. Err rule) (text_rule (word_of how) te
 abbrev pub by_text : Mention → List ℕ → Result Reference Rule
 by_text how text = option_map_or (λ id. Ok (Id id)) (id_of text) (by_name how text)
 
-abbrev pub count_members : Members → ℕ
-count_members no_members = 0
-count_members (member name d rest) = count_members rest + 1
+-- the only member of a list
+abbrev pub only : {A : Type 0} → List A → Option A
+only [] = None
+only (one ∷ []) = Some one
+only (one ∷ another ∷ more) = None
 
--- the text of the member of this name, where the object has no other
-abbrev pub only_text : List ℕ → Data → Option (List ℕ)
-only_text name d =
-    if option_map_or count_members (as_object d) 0 == 1 then option_and_then as_str (get name d) else None
+-- the row that a member names
+abbrev pub by_member : Mention → List ℕ × Data → Result Reference Rule
+by_member how named =
+    if bytes_eq named.0 (codes "id") then option_map_or by_id (as_str named.1) (Err WrongType)
+    else (if bytes_eq named.0 (mentioned_by how) then option_map_or (by_name how) (as_str named.1) (Err WrongType)
+    else Err WrongType)
 
--- the row that a value names, by a text or by an object of one member; or the rule that it breaks
+-- the row that a value names, or the rule that it breaks: a text names one, and so does an object by
+-- the only member that is set
 abbrev pub reference_of : Mention → Data → Result Reference Rule
-reference_of how d =
-    option_map_or (by_text how) (as_str d)
-    (option_map_or by_id (only_text (codes "id") d)
-    (option_map_or (by_name how) (only_text (mentioned_by how) d) (Err WrongType)))
+reference_of how (string text) = by_text how text
+reference_of how (object members) = option_map_or (by_member how) (only (set_members members)) (Err WrongType)
+reference_of how _ = Err WrongType
 
 -- ---- headers of a route
-
--- an object in which nothing is set counts as not set
-abbrev pub is_any_set : Members → Bool
-is_any_set no_members = false
-is_any_set (member name d rest) = is_set d || is_any_set rest
-
-abbrev pub member_names : Members → List (List ℕ)
-member_names no_members = []
-member_names (member name d rest) = name ∷ member_names rest
 
 -- a header that a route can ask for: any but host
 abbrev pub is_header : List ℕ → Bool
 is_header name = is_token name && not (bytes_eq (str_to_ascii_lowercase name) (codes "host"))
 
--- the values of one header
-abbrev pub values_rule : Data → Option Rule
-values_rule d = if is_set d then typed (list_rule word.FreeText) (texts_of d) else None
+-- the rules that the values of a header break
+abbrev pub values_breaks : Data → List Rule
+values_breaks d = option_map_or (list_breaks word.FreeText) (texts_of d) (WrongType ∷ [])
 
--- one header: its name, and its values
+-- the rules that one header breaks, by its name and by its values
+abbrev pub header_breaks : List ℕ → Data → List Rule
+header_breaks name d = broken_if (not (is_header name)) Syntax ++ values_breaks d
+
+-- the one that is told
 abbrev pub header_rule : List ℕ → Data → Option Rule
-header_rule name d = sooner (values_rule d) (if is_header name then None else Some Syntax)
+header_rule name d = first_by_rank (header_breaks name d)
 
-abbrev pub each_header_rule : Members → Option Rule
-each_header_rule no_members = None
-each_header_rule (member name d rest) = sooner (header_rule name d) (each_header_rule rest)
+-- the rules that headers break: each by itself, and no two names differ by case alone
+abbrev pub headers_breaks : List (List ℕ × Data) → List Rule
+headers_breaks headers =
+    flat_map (λ header. header_breaks header.0 header.1) headers
+    ++ broken_if (not (are_distinct (map (λ header. str_to_ascii_lowercase header.0) headers))) Repeated
 
--- all headers: no two names differ by case alone
+-- the one that is told, of the headers whose values are set
 abbrev pub headers_rule : Members → Option Rule
-headers_rule ms =
-    if is_any_set ms
-    then sooner (each_header_rule ms) (if are_distinct (map str_to_ascii_lowercase (member_names ms)) then None else Some Repeated)
-    else None
+headers_rule members = first_by_rank (headers_breaks (set_members members))
 
 -- ---- any shape
 

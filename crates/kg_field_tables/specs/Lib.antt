@@ -1,4 +1,5 @@
 pub mod Accepted
 pub mod BrokenRules
+pub mod Depths
 pub mod FieldTables
 pub mod Judging

@@ -7,7 +7,7 @@ ghost use Rattle.serde_json.specs.View.{view};
 use serde_json::Value;
 
 /// The only value that a field takes, beside not being set.
-#[derive(Clone, Copy, Debug, PartialEq, Eq)]
+#[derive(Clone, Copy)]
 pub enum Constant {
     /// None: the field is never set.
     Nothing,
@@ -17,7 +17,7 @@ pub enum Constant {
 }
 
 /// A fixed text.
-#[derive(Clone, Copy, Debug, PartialEq, Eq)]
+#[derive(Clone, Copy)]
 pub enum Phrase {
     /// The protocol of services.
     Http,

@@ -8,7 +8,7 @@ use kg_row_types::id::Id;
 use kg_text::Text;
 
 /// How a row is named other than by its id.
-#[derive(Clone, Copy, Debug, PartialEq, Eq)]
+#[derive(Clone, Copy)]
 pub enum Mention {
     /// By the name of a service or a route.
     Name,
@@ -17,7 +17,7 @@ pub enum Mention {
 }
 
 /// The row that a body names.
-#[derive(Debug, PartialEq, Drop)]
+#[derive(Drop)]
 pub enum Reference {
     Id(Id),
     Name(Text),

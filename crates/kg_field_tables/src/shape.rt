@@ -4,7 +4,7 @@ use crate::reference::Mention;
 use kg_field_rules::word::{Choice, Word};
 
 /// What a value is made of. null and the empty list are taken at every shape, as not set.
-#[derive(Clone, Copy, Debug, PartialEq, Eq)]
+#[derive(Clone, Copy)]
 pub enum Shape {
     Text(Word),
     /// At most 64 texts, no two of which are kept alike.

@@ -3,7 +3,8 @@
 mod config;
 
 ghost use Rattle.std.specs.Prelude.{◌≡◌, ◌≤◌};
-ghost use Rattle.kg_field_tables.specs.FieldTables.{config_field, depth_of, field_of, levels, table_of};
+ghost use Rattle.kg_field_tables.specs.FieldTables.{config_field, field_among, field_of, other_route_fields, other_service_fields, row_fields, table_of};
+ghost use Rattle.kg_field_tables.specs.Depths.{depth_of, levels};
 
 use crate::constant::{Constant, Phrase};
 use crate::reference::Mention;
@@ -14,7 +15,7 @@ use kg_row_types::entity::Kind;
 use kg_row_types::plugin::PluginName;
 
 /// The fields of one object. What hangs on the object's place is told by the variant.
-#[derive(Clone, Copy, Debug, PartialEq, Eq)]
+#[derive(Clone, Copy)]
 pub enum Table {
     Service,
     Route,
@@ -33,7 +34,7 @@ pub enum Table {
 }
 
 /// The objects of lists of a transformer.
-#[derive(Clone, Copy, Debug, PartialEq, Eq)]
+#[derive(Clone, Copy)]
 pub enum EditList {
     Remove,
     Rename,
@@ -43,7 +44,7 @@ pub enum EditList {
 }
 
 /// What is taken under a name.
-#[derive(Clone, Copy, Debug, PartialEq, Eq)]
+#[derive(Clone, Copy)]
 pub enum Field {
     /// Nothing: there is no such field.
     Unknown,
@@ -90,6 +91,18 @@ pub fn field_of(table: Table, name: &str) -> Field
     }
 }
 
+// The id of a row, and its times, which the clock tells.
+fn row_field(name: &str) -> Field
+    ensures field { result ≡ field_among row_fields name.now }
+    ensures depth { depth_of result ≡ 0 }
+{
+    match name {
+        "id" => Field::Judged(Shape::Text(Word::Id)),
+        "created_at" | "updated_at" => Field::Dropped,
+        _ => Field::Unknown,
+    }
+}
+
 fn service_field(name: &str) -> Field
     ensures field { result ≡ field_of Table.Service name.now }
     ensures depth { depth_of result ≡ 0 }
@@ -109,6 +122,16 @@ fn service_field(name: &str) -> Field
         }),
         "enabled" => Field::Judged(Shape::Flag),
         "url" => Field::Judged(Shape::Text(Word::Url)),
+        _ => other_service_field(name),
+    }
+}
+
+// Tags, timeouts and certificates, which a service has no use for.
+fn other_service_field(name: &str) -> Field
+    ensures field { result ≡ field_among other_service_fields name.now }
+    ensures depth { depth_of result ≡ 0 }
+{
+    match name {
         "connect_timeout"
         | "read_timeout"
         | "write_timeout"
@@ -117,9 +140,7 @@ fn service_field(name: &str) -> Field
         | "client_certificate"
         | "tls_verify"
         | "tls_verify_depth" => Field::Dropped,
-        "id" => Field::Judged(Shape::Text(Word::Id)),
-        "created_at" | "updated_at" => Field::Dropped,
-        _ => Field::Unknown,
+        _ => row_field(name),
     }
 }
 
@@ -140,14 +161,22 @@ fn route_field(name: &str) -> Field
             high: 1_000_000,
         }),
         "strip_path" | "preserve_host" => Field::Judged(Shape::Flag),
+        _ => other_route_field(name),
+    }
+}
+
+// How paths are joined, what other protocols ask for, tags and buffers.
+fn other_route_field(name: &str) -> Field
+    ensures field { result ≡ field_among other_route_fields name.now }
+    ensures depth { depth_of result ≡ 0 }
+{
+    match name {
         "path_handling" => Field::Fixed(Constant::Phrase(Phrase::V0)),
         "snis" | "sources" | "destinations" => Field::Fixed(Constant::Nothing),
         "tags" | "request_buffering" | "response_buffering" | "https_redirect_status_code" => {
             Field::Dropped
         }
-        "id" => Field::Judged(Shape::Text(Word::Id)),
-        "created_at" | "updated_at" => Field::Dropped,
-        _ => Field::Unknown,
+        _ => row_field(name),
     }
 }
 
@@ -159,9 +188,7 @@ fn consumer_field(name: &str) -> Field
         "username" => Field::Judged(Shape::Text(Word::Username)),
         "custom_id" => Field::Judged(Shape::Text(Word::FreeText)),
         "tags" => Field::Dropped,
-        "id" => Field::Judged(Shape::Text(Word::Id)),
-        "created_at" | "updated_at" => Field::Dropped,
-        _ => Field::Unknown,
+        _ => row_field(name),
     }
 }
 
@@ -174,9 +201,7 @@ fn key_cred_field(name: &str) -> Field
         "key" => Field::Judged(Shape::Text(Word::FreeText)),
         "ttl" => Field::Fixed(Constant::Nothing),
         "tags" => Field::Dropped,
-        "id" => Field::Judged(Shape::Text(Word::Id)),
-        "created_at" | "updated_at" => Field::Dropped,
-        _ => Field::Unknown,
+        _ => row_field(name),
     }
 }
 
@@ -188,9 +213,7 @@ fn basic_cred_field(name: &str) -> Field
         "consumer" => Field::Judged(Shape::Reference(Mention::Username)),
         "username" | "password" => Field::Judged(Shape::Text(Word::FreeText)),
         "tags" => Field::Dropped,
-        "id" => Field::Judged(Shape::Text(Word::Id)),
-        "created_at" | "updated_at" => Field::Dropped,
-        _ => Field::Unknown,
+        _ => row_field(name),
     }
 }
 
@@ -202,9 +225,7 @@ fn acl_field(name: &str) -> Field
         "consumer" => Field::Judged(Shape::Reference(Mention::Username)),
         "group" => Field::Judged(Shape::Text(Word::FreeText)),
         "tags" => Field::Dropped,
-        "id" => Field::Judged(Shape::Text(Word::Id)),
-        "created_at" | "updated_at" => Field::Dropped,
-        _ => Field::Unknown,
+        _ => row_field(name),
     }
 }
 
@@ -220,9 +241,7 @@ fn plugin_field(plugin: Option<PluginName>, name: &str) -> Field
         "config" => config_field(plugin),
         "ordering" => Field::Fixed(Constant::Nothing),
         "protocols" | "tags" | "instance_name" => Field::Dropped,
-        "id" => Field::Judged(Shape::Text(Word::Id)),
-        "created_at" | "updated_at" => Field::Dropped,
-        _ => Field::Unknown,
+        _ => row_field(name),
     }
 }
 

@@ -5,14 +5,23 @@ ghost use Rattle.std.specs.List.{before_first, list_all, list_any, slice_split};
 ghost use Rattle.std.specs.Char.{is_ascii_digit};
 ghost use Rattle.std.specs.Str.Parse.{digits_value};
 ghost use Rattle.kg_text.specs.Paths.{slash};
-ghost use Rattle.kg_row_types.specs.ConfigWords.{after_first, has_ipv4_block_form, is_decimal_within, is_ipv4};
+ghost use Rattle.kg_row_types.specs.ConfigWords.{after_first, has_ipv4_block_form, is_decimal_within, is_ipv4, is_ipv4_block};
 
 use crate::parts::{are_digits, number_of, split_before};
 use kg_text::NoMemory;
 use std::alloc::{AllocError, Global};
 
 /// An IPv4 address, or a block: an address, `/` and 0 to 32.
-pub fn has_ipv4_block_form(alloc: Global, text: &[u8]) -> Result<bool, NoMemory>
+pub fn is_ipv4_block(alloc: Global, text: &[u8]) -> Result<bool, NoMemory>
+    ensures { IfOk result (λ is. is ≡ is_ipv4_block text.now) }
+{
+    if text.is_empty() || text.len() > 255 {
+        return Ok(false);
+    }
+    has_ipv4_block_form(alloc, text)
+}
+
+fn has_ipv4_block_form(alloc: Global, text: &[u8]) -> Result<bool, NoMemory>
     ensures { IfOk result (λ has. has ≡ has_ipv4_block_form text.now) }
 {
     let (address, behind) = split_before(b'/', text);

@@ -2,7 +2,8 @@
 
 ghost use Rattle.std.specs.Prelude.{◌≡◌, ◌≤◌, codes};
 ghost use Rattle.kg_row_types.specs.declared.plugin.PluginName.TheVariants as plugin;
-ghost use Rattle.kg_field_tables.specs.FieldTables.{depth_of, field_of, header_word};
+ghost use Rattle.kg_field_tables.specs.FieldTables.{field_of, header_word};
+ghost use Rattle.kg_field_tables.specs.Depths.{depth_of};
 
 use crate::constant::{Constant, Phrase};
 use crate::shape::Shape;

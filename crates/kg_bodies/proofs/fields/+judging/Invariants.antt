@@ -1,7 +1,7 @@
 use Rattle.std.proofs.Common.{◌≡◌, ◌+◌, ◌*◌, fold}
 use Rattle.serde_json.specs.View.{members_view}
 use Rattle.kg_field_tables.specs.BrokenRules.{faults_in}
-use Rattle.kg_field_tables.specs.FieldTables.{depth_of, levels}
+use Rattle.kg_field_tables.specs.Depths.{depth_of, levels}
 use Rattle.kg_field_rules.specs.Rules.{tell}
 use Rattle.kg_bodies.proofs.fields.+judging.Given as goal
 
