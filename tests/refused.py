@@ -1,7 +1,8 @@
 #!/usr/bin/env python3
-"""Runs `kong_node dry` over the rows of tests/refused.txt, and compares what it prints and its status.
+"""Runs `kong_node dry` over the rows of tests/refused.txt, and compares what it prints and its exit status.
 
 usage: tests/refused.py
+Of each row that is told otherwise it prints the line of the table, what was wanted and what was had.
 """
 
 import re
@@ -26,21 +27,27 @@ BEFORE = {
 }
 
 
+# what comes before a refusal's fields, by its code
+MESSAGES = {2: "schema violation", 4: "foreign key violation", 5: "unique constraint violation"}
+
+
 def cases(text):
-    """The list, the row and what is told of it, for each line of the table."""
+    """The line's number, the list, its rows and what is told of the last, for each line of the table."""
     name = None
-    for line in text.splitlines():
+    for number, line in enumerate(text.splitlines(), 1):
         if line.startswith("["):
             name = line[1 : line.index("]")]
         elif line and not line.startswith("#"):
-            row, _, told = line.rpartition("|")
-            yield name, row, told
+            rows, _, told = line.rpartition("|")
+            yield number, name, rows, told
 
 
-def declaration(name, row):
-    """The declaration that ends with this row in a list of this name."""
-    row = re.sub(r"<(.*?)\*(\d+)>", lambda many: many[1] * int(many[2]), row)
-    lists = ",".join([*BEFORE[name], f'"{name}":[{row}]'])
+def declaration(name, rows):
+    """The declaration that ends with these rows in a list of this name."""
+    rows = re.sub(r"<(.*?)\*(\d+)>", lambda many: many[1] * int(many[2]), rows)
+    if name == "declaration":
+        return f"{rows}\n"
+    lists = ",".join([*BEFORE[name], f'"{name}":[{rows}]'])
     return f'{{"_format_version":"3.0",{lists}}}\n'
 
 
@@ -50,22 +57,38 @@ def wanted(name, told):
         return 6, ""
     if told == "accepted":
         return (3, 'line 1 refused: {"message":"Not built yet"}\n') if name == "plugins" else (0, "")
-    return 3, f'line 1 refused: {{"code":2,"fields":{told},"message":"schema violation","name":"schema violation"}}\n'
+    code, fields = (int(told[0]), told[2:]) if told[0].isdigit() else (2, told)
+    message = MESSAGES[code]
+    return 3, f'line 1 refused: {{"code":{code},"fields":{fields},"message":"{message}","name":"{message}"}}\n'
 
 
-def had(name, row):
-    ran = subprocess.run([PROGRAM, "dry"], input=declaration(name, row).encode(), stdout=subprocess.PIPE, timeout=60)
+def had(name, rows):
+    given = declaration(name, rows).encode()
+    ran = subprocess.run(
+        [PROGRAM, "dry"], input=given, stdout=subprocess.PIPE, stderr=subprocess.DEVNULL, timeout=60
+    )
     return ran.returncode, ran.stdout.decode()
+
+
+def told_of(answer):
+    """A status and what is printed, on one line."""
+    status, printed = answer
+    return f"status {status}, {printed.rstrip()}" if printed else f"status {status}, nothing printed"
 
 
 def main():
     # builds the program where it isn't there yet
     subprocess.run([ROOT / "bin/kong_node", "--version"], stdout=subprocess.DEVNULL, check=True)
     table = list(cases((ROOT / "tests/refused.txt").read_text()))
-    wrong = [(name, row) for name, row, told in table if had(name, row) != wanted(name, told)]
-    for name, row in wrong:
-        print(f"tests/refused.txt: {name} {row}: {had(name, row)}")
-    print(f"rows of tests/refused.txt: {len(table) - len(wrong)} as told, {len(wrong)} not")
+    wrong = 0
+    for number, name, rows, told in table:
+        answers = wanted(name, told), had(name, rows)
+        if answers[0] != answers[1]:
+            wrong += 1
+            print(f"tests/refused.txt:{number}: {name} {rows}")
+            print(f"  wanted {told_of(answers[0])}")
+            print(f"  had    {told_of(answers[1])}")
+    print(f"rows of tests/refused.txt: {len(table) - wrong} as told, {wrong} not")
     return 1 if wrong or not table else 0
 
 
