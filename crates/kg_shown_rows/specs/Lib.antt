@@ -1,3 +1,4 @@
+pub mod Puts
 pub mod Shown
 pub mod ShownConfigs
 pub mod ShownParts

@@ -16,10 +16,10 @@ use Rattle.kg_row_types.specs.declared.service.Service.{Service}
 use Rattle.serde_json.specs.Data.{Data, null, boolean, number, string, object, Members, no_members, put}
 use Rattle.serde_json.specs.Find.{of_integer}
 use Rattle.kg_shown_rows.specs.ShownConfigs.{shown_config}
-use Rattle.kg_shown_rows.specs.ShownParts.{members_of, object_of, shown_id, shown_link, shown_number, shown_reference, shown_text, shown_texts}
+use Rattle.kg_shown_rows.specs.ShownParts.{Named, object_of, shown_id, shown_link, shown_number, shown_reference, shown_text, shown_texts}
 
-abbrev pub shown_service : Service → Data
-shown_service service = object_of (
+abbrev pub service_members : Service → Named
+service_members service =
     (codes "created_at", shown_number service.created_at)
     ∷ (codes "enabled", boolean service.enabled)
     ∷ (codes "host", string service.host)
@@ -30,7 +30,7 @@ shown_service service = object_of (
     ∷ (codes "protocol", string (codes "http"))
     ∷ (codes "retries", shown_number service.retries)
     ∷ (codes "updated_at", shown_number service.updated_at)
-    ∷ [])
+    ∷ []
 
 -- the members with one more: the values that a route asks for, under the name of their header
 abbrev pub with_values : Members → HeaderTest → Members
@@ -43,19 +43,8 @@ shown_headers tests = if length tests == 0 then null else object (fold with_valu
 abbrev pub protocols_of : Bool → List (List ℕ)
 protocols_of https = codes "http" ∷ (if https then codes "https" ∷ [] else [])
 
--- the members that a request is tested for
-abbrev pub shown_tests : Route → Members
-shown_tests route = members_of (
-    (codes "headers", shown_headers route.headers)
-    ∷ (codes "hosts", shown_texts route.hosts)
-    ∷ (codes "methods", shown_texts route.methods)
-    ∷ (codes "paths", shown_texts route.paths)
-    ∷ (codes "protocols", shown_texts (protocols_of route.https))
-    ∷ (codes "regex_priority", number (of_integer route.regex_priority))
-    ∷ [])
-
-abbrev pub shown_route : Route → Data
-shown_route route = object_of (
+abbrev pub route_members : Route → Named
+route_members route =
     (codes "created_at", shown_number route.created_at)
     ∷ (codes "headers", shown_headers route.headers)
     ∷ (codes "hosts", shown_texts route.hosts)
@@ -70,45 +59,45 @@ shown_route route = object_of (
     ∷ (codes "service", shown_reference route.service)
     ∷ (codes "strip_path", boolean route.strip_path)
     ∷ (codes "updated_at", shown_number route.updated_at)
-    ∷ [])
+    ∷ []
 
-abbrev pub shown_consumer : Consumer → Data
-shown_consumer consumer = object_of (
+abbrev pub consumer_members : Consumer → Named
+consumer_members consumer =
     (codes "created_at", shown_number consumer.created_at)
     ∷ (codes "custom_id", shown_text consumer.custom_id)
     ∷ (codes "id", shown_id consumer.id)
     ∷ (codes "updated_at", shown_number consumer.updated_at)
     ∷ (codes "username", shown_text consumer.username)
-    ∷ [])
+    ∷ []
 
-abbrev pub shown_key : KeyCred → Data
-shown_key credential = object_of (
+abbrev pub key_members : KeyCred → Named
+key_members credential =
     (codes "consumer", shown_reference credential.consumer)
     ∷ (codes "created_at", shown_number credential.created_at)
     ∷ (codes "id", shown_id credential.id)
     ∷ (codes "key", string credential.key)
-    ∷ [])
+    ∷ []
 
 -- the password is shown as what is kept of it
-abbrev pub shown_basic : BasicCred → Data
-shown_basic credential = object_of (
+abbrev pub basic_members : BasicCred → Named
+basic_members credential =
     (codes "consumer", shown_reference credential.consumer)
     ∷ (codes "created_at", shown_number credential.created_at)
     ∷ (codes "id", shown_id credential.id)
     ∷ (codes "password", string credential.hash)
     ∷ (codes "username", string credential.username)
-    ∷ [])
+    ∷ []
 
-abbrev pub shown_acl : AclRow → Data
-shown_acl row = object_of (
+abbrev pub acl_members : AclRow → Named
+acl_members row =
     (codes "consumer", shown_reference row.consumer)
     ∷ (codes "created_at", shown_number row.created_at)
     ∷ (codes "group", string row.group)
     ∷ (codes "id", shown_id row.id)
-    ∷ [])
+    ∷ []
 
-abbrev pub shown_plugin : PluginRow → Data
-shown_plugin row = object_of (
+abbrev pub plugin_members : PluginRow → Named
+plugin_members row =
     (codes "config", shown_config row.config)
     ∷ (codes "consumer", shown_link row.scope.consumer)
     ∷ (codes "created_at", shown_number row.created_at)
@@ -117,14 +106,18 @@ shown_plugin row = object_of (
     ∷ (codes "name", string (plugin_text (plugin_of row.config)))
     ∷ (codes "route", shown_link row.scope.route)
     ∷ (codes "service", shown_link row.scope.service)
-    ∷ [])
+    ∷ []
+
+-- the members of a row
+abbrev pub row_members : Entity → Named
+row_members (row_of.Service service) = service_members service
+row_members (row_of.Route route) = route_members route
+row_members (row_of.Consumer consumer) = consumer_members consumer
+row_members (row_of.KeyCred credential) = key_members credential
+row_members (row_of.BasicCred credential) = basic_members credential
+row_members (row_of.Acl row) = acl_members row
+row_members (row_of.Plugin row) = plugin_members row
 
 -- the row as an object
 abbrev pub shown : Entity → Data
-shown (row_of.Service service) = shown_service service
-shown (row_of.Route route) = shown_route route
-shown (row_of.Consumer consumer) = shown_consumer consumer
-shown (row_of.KeyCred credential) = shown_key credential
-shown (row_of.BasicCred credential) = shown_basic credential
-shown (row_of.Acl row) = shown_acl row
-shown (row_of.Plugin row) = shown_plugin row
+shown row = object_of (row_members row)

@@ -19,7 +19,7 @@ use Rattle.kg_row_types.specs.declared.config.SizeUnit.{SizeUnit}
 use Rattle.kg_row_types.specs.declared.config.SizeUnit.TheVariants as unit
 use Rattle.kg_row_types.specs.declared.config.Termination.{Termination}
 use Rattle.serde_json.specs.Data.{Data, null, boolean, string}
-use Rattle.kg_shown_rows.specs.ShownParts.{object_of, shown_number, shown_option, shown_text, shown_texts}
+use Rattle.kg_shown_rows.specs.ShownParts.{Named, object_of, shown_number, shown_option, shown_text, shown_texts}
 
 abbrev pub limit_text : LimitBy → List ℕ
 limit_text limit.Consumer = codes "consumer"
@@ -31,8 +31,8 @@ unit_text unit.Megabytes = codes "megabytes"
 unit_text unit.Kilobytes = codes "kilobytes"
 unit_text unit.Bytes = codes "bytes"
 
-abbrev pub shown_cors : Cors → Data
-shown_cors config = object_of (
+abbrev pub cors_members : Cors → Named
+cors_members config =
     (codes "credentials", boolean config.credentials)
     ∷ (codes "exposed_headers", shown_texts config.exposed_headers)
     ∷ (codes "headers", shown_texts config.headers)
@@ -40,51 +40,51 @@ shown_cors config = object_of (
     ∷ (codes "methods", shown_texts config.methods)
     ∷ (codes "origins", shown_texts config.origins)
     ∷ (codes "preflight_continue", boolean config.preflight_continue)
-    ∷ [])
+    ∷ []
 
-abbrev pub shown_key_auth : KeyAuth → Data
-shown_key_auth config = object_of (
+abbrev pub key_auth_members : KeyAuth → Named
+key_auth_members config =
     (codes "anonymous", shown_text config.anonymous)
     ∷ (codes "hide_credentials", boolean config.hide_credentials)
     ∷ (codes "key_in_header", boolean config.key_in_header)
     ∷ (codes "key_in_query", boolean config.key_in_query)
     ∷ (codes "key_names", shown_texts config.key_names)
-    ∷ [])
+    ∷ []
 
-abbrev pub shown_basic_auth : BasicAuth → Data
-shown_basic_auth config = object_of (
+abbrev pub basic_auth_members : BasicAuth → Named
+basic_auth_members config =
     (codes "anonymous", shown_text config.anonymous)
     ∷ (codes "hide_credentials", boolean config.hide_credentials)
-    ∷ [])
+    ∷ []
 
-abbrev pub shown_ip_restriction : IpRestriction → Data
-shown_ip_restriction config = object_of (
+abbrev pub ip_restriction_members : IpRestriction → Named
+ip_restriction_members config =
     (codes "allow", shown_texts config.allow)
     ∷ (codes "deny", shown_texts config.deny)
-    ∷ [])
+    ∷ []
 
-abbrev pub shown_size_limit : SizeLimit → Data
-shown_size_limit config = object_of (
+abbrev pub size_limit_members : SizeLimit → Named
+size_limit_members config =
     (codes "allowed_payload_size", shown_number config.allowed_payload_size)
     ∷ (codes "size_unit", string (unit_text config.size_unit))
-    ∷ [])
+    ∷ []
 
-abbrev pub shown_groups : Acl → Data
-shown_groups config = object_of (
+abbrev pub groups_members : Acl → Named
+groups_members config =
     (codes "allow", shown_texts config.allow)
     ∷ (codes "deny", shown_texts config.deny)
     ∷ (codes "hide_groups_header", boolean config.hide_groups_header)
-    ∷ [])
+    ∷ []
 
-abbrev pub shown_rate_limiting : RateLimiting → Data
-shown_rate_limiting config = object_of (
+abbrev pub rate_limiting_members : RateLimiting → Named
+rate_limiting_members config =
     (codes "day", shown_option config.day)
     ∷ (codes "hide_client_headers", boolean config.hide_client_headers)
     ∷ (codes "hour", shown_option config.hour)
     ∷ (codes "limit_by", string (limit_text config.limit_by))
     ∷ (codes "minute", shown_option config.minute)
     ∷ (codes "second", shown_option config.second)
-    ∷ [])
+    ∷ []
 
 -- one step of a request's change
 abbrev pub shown_edits : Edits → Data
@@ -95,14 +95,14 @@ shown_edits edits =
     ∷ (codes "querystring", shown_texts edits.querystring)
     ∷ [])
 
-abbrev pub shown_request_transformer : RequestTransformer → Data
-shown_request_transformer config = object_of (
+abbrev pub request_transformer_members : RequestTransformer → Named
+request_transformer_members config =
     (codes "add", shown_edits config.add)
     ∷ (codes "append", shown_edits config.append)
     ∷ (codes "remove", shown_edits config.remove)
     ∷ (codes "rename", shown_edits config.rename)
     ∷ (codes "replace", shown_edits config.replace)
-    ∷ [])
+    ∷ []
 
 -- one step of a reply's change
 abbrev pub shown_header_edits : List (List ℕ) → Data
@@ -110,32 +110,36 @@ shown_header_edits headers =
     if length headers == 0 then null
     else object_of ((codes "headers", shown_texts headers) ∷ [])
 
-abbrev pub shown_response_transformer : ResponseTransformer → Data
-shown_response_transformer config = object_of (
+abbrev pub response_transformer_members : ResponseTransformer → Named
+response_transformer_members config =
     (codes "add", shown_header_edits config.add)
     ∷ (codes "append", shown_header_edits config.append)
     ∷ (codes "remove", shown_header_edits config.remove)
     ∷ (codes "rename", shown_header_edits config.rename)
     ∷ (codes "replace", shown_header_edits config.replace)
-    ∷ [])
+    ∷ []
 
-abbrev pub shown_termination : Termination → Data
-shown_termination config = object_of (
+abbrev pub termination_members : Termination → Named
+termination_members config =
     (codes "body", shown_text config.body)
     ∷ (codes "content_type", shown_text config.content_type)
     ∷ (codes "message", shown_text config.message)
     ∷ (codes "status_code", shown_number config.status_code)
-    ∷ [])
+    ∷ []
+
+-- the members of a config
+abbrev pub config_members : Config → Named
+config_members (config_of.Cors config) = cors_members config
+config_members (config_of.KeyAuth config) = key_auth_members config
+config_members (config_of.BasicAuth config) = basic_auth_members config
+config_members (config_of.IpRestriction config) = ip_restriction_members config
+config_members (config_of.RequestSizeLimiting config) = size_limit_members config
+config_members (config_of.Acl config) = groups_members config
+config_members (config_of.RateLimiting config) = rate_limiting_members config
+config_members (config_of.RequestTransformer config) = request_transformer_members config
+config_members (config_of.ResponseTransformer config) = response_transformer_members config
+config_members (config_of.RequestTermination config) = termination_members config
 
 -- the config as an object
 abbrev pub shown_config : Config → Data
-shown_config (config_of.Cors config) = shown_cors config
-shown_config (config_of.KeyAuth config) = shown_key_auth config
-shown_config (config_of.BasicAuth config) = shown_basic_auth config
-shown_config (config_of.IpRestriction config) = shown_ip_restriction config
-shown_config (config_of.RequestSizeLimiting config) = shown_size_limit config
-shown_config (config_of.Acl config) = shown_groups config
-shown_config (config_of.RateLimiting config) = shown_rate_limiting config
-shown_config (config_of.RequestTransformer config) = shown_request_transformer config
-shown_config (config_of.ResponseTransformer config) = shown_response_transformer config
-shown_config (config_of.RequestTermination config) = shown_termination config
+shown_config config = object_of (config_members config)

@@ -5,12 +5,16 @@ use Rattle.kg_row_types.specs.Ids.{printed}
 use Rattle.serde_json.specs.Data.{Data, null, number, unsigned, string, array, object, Members, member, no_members}
 use Rattle.serde_json.specs.View.{items_of}
 
--- the object with these members, which are given in byte order of their names
-abbrev pub members_of : List (List ℕ × Data) → Members
+-- names with their values
+abbrev pub Named : Type 0
+Named = List (List ℕ × Data)
+
+-- the members with these names and values, which are given in byte order of their names
+abbrev pub members_of : Named → Members
 members_of [] = no_members
 members_of (m ∷ ms) = member m.0 m.1 (members_of ms)
 
-abbrev pub object_of : List (List ℕ × Data) → Data
+abbrev pub object_of : Named → Data
 object_of members = object (members_of members)
 
 -- a whole number

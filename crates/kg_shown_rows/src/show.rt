@@ -1,21 +1,25 @@
 //! Rows as objects of JSON (Kong Admin API, the entities' pages).
 
-ghost use Rattle.std.specs.Prelude.{◌≡◌, IfOk};
+ghost use Rattle.std.specs.Prelude.{◌≡◌, IfOk, OnOk, drop, take};
 ghost use Rattle.serde_json.specs.View.{members_view, view};
-ghost use Rattle.kg_shown_rows.specs.Shown.{shown, shown_acl, shown_basic, shown_consumer, shown_key, shown_plugin, shown_route, shown_service, shown_tests};
+ghost use Rattle.kg_shown_rows.specs.Puts.{with_members};
+ghost use Rattle.kg_shown_rows.specs.Shown.{acl_members, basic_members, consumer_members, key_members, plugin_members, route_members, row_members, service_members, shown};
 
 mod config;
 mod parts;
 
 use crate::show::config::config_object;
-use crate::show::parts::{HeaderTests, IdOf, Link, MaybeText, Protocols, Reference, Texts};
+use crate::show::parts::{
+    put_flag, put_headers, put_id, put_link, put_number, put_protocols, put_reference, put_str,
+    put_text, put_texts,
+};
 use kg_row_types::consumer::{AclRow, BasicCred, Consumer, KeyCred};
 use kg_row_types::entity::Entity;
 use kg_row_types::plugin::PluginRow;
 use kg_row_types::route::Route;
 use kg_row_types::service::Service;
 use kg_text::NoMemory;
-use serde_json::{Map, ToValue, Value, json, put};
+use serde_json::{Map, Value, put};
 use std::alloc::{AllocError, Global};
 
 /// The row as an object of JSON, as the Admin API shows it. What isn't set is null; members that have
@@ -27,184 +31,159 @@ pub fn show_entity(alloc: Global, row: &Entity) -> Result<Value, NoMemory>
     Ok(row_object(alloc, row)?)
 }
 
+#[tactic(auto, using(crate::proofs::InByteOrder::row_in_order))]
 fn row_object(alloc: Global, row: &Entity) -> Result<Value, AllocError>
     ensures { IfOk result (λ v. view v ≡ shown row.now) }
 {
-    match row {
-        Entity::Service(service) => service_object(alloc, service),
-        Entity::Route(route) => route_object(alloc, route),
-        Entity::Consumer(consumer) => consumer_object(alloc, consumer),
-        Entity::KeyCred(credential) => key_object(alloc, credential),
-        Entity::BasicCred(credential) => basic_object(alloc, credential),
-        Entity::Acl(row) => acl_object(alloc, row),
-        Entity::Plugin(row) => plugin_object(alloc, row),
-    }
-}
-
-fn service_object(alloc: Global, service: &Service) -> Result<Value, AllocError>
-    ensures { IfOk result (λ v. view v ≡ shown_service service.now) }
-{
-    json!(in alloc; {
-        "created_at": service.created_at,
-        "enabled": service.enabled,
-        "host": service.host.as_str(),
-        "id": IdOf(service.id),
-        "name": MaybeText(&service.name),
-        "path": MaybeText(&service.path),
-        "port": service.port,
-        "protocol": "http",
-        "retries": service.retries,
-        "updated_at": service.updated_at
-    })
-}
-
-fn route_object(alloc: Global, route: &Route) -> Result<Value, AllocError>
-    ensures { IfOk result (λ v. view v ≡ shown_route route.now) }
-{
-    let mut members = tested_members(alloc, route)?;
-    put(
-        &mut members,
-        alloc,
-        "created_at",
-        Value::from(route.created_at),
-    )?;
-    put(&mut members, alloc, "id", IdOf(route.id).to_value(alloc)?)?;
-    put(
-        &mut members,
-        alloc,
-        "name",
-        MaybeText(&route.name).to_value(alloc)?,
-    )?;
-    put(&mut members, alloc, "path_handling", "v0".to_value(alloc)?)?;
-    put(
-        &mut members,
-        alloc,
-        "preserve_host",
-        Value::from(route.preserve_host),
-    )?;
-    put(
-        &mut members,
-        alloc,
-        "service",
-        Reference(route.service).to_value(alloc)?,
-    )?;
-    put(
-        &mut members,
-        alloc,
-        "strip_path",
-        Value::from(route.strip_path),
-    )?;
-    put(
-        &mut members,
-        alloc,
-        "updated_at",
-        Value::from(route.updated_at),
-    )?;
+    let mut members = Map::new(alloc);
+    put_row(alloc, &mut members, row)?;
     Ok(Value::from(members))
 }
 
-// What a request is tested for.
-fn tested_members(alloc: Global, route: &Route) -> Result<Map<String, Value>, AllocError>
-    ensures { IfOk result (λ members. members_view members.entries ≡ shown_tests route.now) }
+fn put_row(alloc: Global, members: &mut Map<String, Value>, row: &Entity) -> Result<(), AllocError>
+    ensures { OnOk result (members_view members.new.entries ≡ with_members (row_members row.now) (members_view members.old.entries)) }
 {
-    let mut members = Map::new(alloc);
+    match row {
+        Entity::Service(service) => put_service(alloc, members, service),
+        Entity::Route(route) => put_route(alloc, members, route),
+        Entity::Consumer(consumer) => put_consumer(alloc, members, consumer),
+        Entity::KeyCred(credential) => put_key(alloc, members, credential),
+        Entity::BasicCred(credential) => put_basic(alloc, members, credential),
+        Entity::Acl(row) => put_acl(alloc, members, row),
+        Entity::Plugin(row) => put_plugin(alloc, members, row),
+    }
+}
+
+fn put_service(
+    alloc: Global,
+    members: &mut Map<String, Value>,
+    service: &Service,
+) -> Result<(), AllocError>
+    ensures { OnOk result (members_view members.new.entries ≡ with_members (service_members service.now) (members_view members.old.entries)) }
+{
+    put_number(alloc, members, "created_at", service.created_at)?;
+    put_flag(alloc, members, "enabled", service.enabled)?;
+    put_str(alloc, members, "host", service.host.as_str())?;
+    put_id(alloc, members, "id", service.id)?;
+    put_text(alloc, members, "name", &service.name)?;
+    put_text(alloc, members, "path", &service.path)?;
+    put_number(alloc, members, "port", u64::from(service.port))?;
+    put_str(alloc, members, "protocol", "http")?;
+    put_number(alloc, members, "retries", u64::from(service.retries))?;
+    put_number(alloc, members, "updated_at", service.updated_at)
+}
+
+fn put_route(
+    alloc: Global,
+    members: &mut Map<String, Value>,
+    route: &Route,
+) -> Result<(), AllocError>
+    ensures { OnOk result (members_view members.new.entries ≡ with_members (route_members route.now) (members_view members.old.entries)) }
+{
+    put_front_of_route(alloc, members, route)?;
+    put_rest_of_route(alloc, members, route)
+}
+
+fn put_front_of_route(
+    alloc: Global,
+    members: &mut Map<String, Value>,
+    route: &Route,
+) -> Result<(), AllocError>
+    ensures { OnOk result (members_view members.new.entries ≡ with_members (take 7 (route_members route.now)) (members_view members.old.entries)) }
+{
+    put_number(alloc, members, "created_at", route.created_at)?;
+    put_headers(alloc, members, "headers", &route.headers)?;
+    put_texts(alloc, members, "hosts", &route.hosts)?;
+    put_id(alloc, members, "id", route.id)?;
+    put_texts(alloc, members, "methods", &route.methods)?;
+    put_text(alloc, members, "name", &route.name)?;
+    put_str(alloc, members, "path_handling", "v0")
+}
+
+fn put_rest_of_route(
+    alloc: Global,
+    members: &mut Map<String, Value>,
+    route: &Route,
+) -> Result<(), AllocError>
+    ensures { OnOk result (members_view members.new.entries ≡ with_members (drop 7 (route_members route.now)) (members_view members.old.entries)) }
+{
+    put_texts(alloc, members, "paths", &route.paths)?;
+    put_flag(alloc, members, "preserve_host", route.preserve_host)?;
+    put_protocols(alloc, members, "protocols", route.https)?;
     put(
-        &mut members,
-        alloc,
-        "headers",
-        HeaderTests(&route.headers).to_value(alloc)?,
-    )?;
-    put(
-        &mut members,
-        alloc,
-        "hosts",
-        Texts(&route.hosts).to_value(alloc)?,
-    )?;
-    put(
-        &mut members,
-        alloc,
-        "methods",
-        Texts(&route.methods).to_value(alloc)?,
-    )?;
-    put(
-        &mut members,
-        alloc,
-        "paths",
-        Texts(&route.paths).to_value(alloc)?,
-    )?;
-    put(
-        &mut members,
-        alloc,
-        "protocols",
-        Protocols(route.https).to_value(alloc)?,
-    )?;
-    put(
-        &mut members,
+        members,
         alloc,
         "regex_priority",
         Value::from(route.regex_priority),
     )?;
-    Ok(members)
+    put_reference(alloc, members, "service", route.service)?;
+    put_flag(alloc, members, "strip_path", route.strip_path)?;
+    put_number(alloc, members, "updated_at", route.updated_at)
 }
 
-fn consumer_object(alloc: Global, consumer: &Consumer) -> Result<Value, AllocError>
-    ensures { IfOk result (λ v. view v ≡ shown_consumer consumer.now) }
+fn put_consumer(
+    alloc: Global,
+    members: &mut Map<String, Value>,
+    consumer: &Consumer,
+) -> Result<(), AllocError>
+    ensures { OnOk result (members_view members.new.entries ≡ with_members (consumer_members consumer.now) (members_view members.old.entries)) }
 {
-    json!(in alloc; {
-        "created_at": consumer.created_at,
-        "custom_id": MaybeText(&consumer.custom_id),
-        "id": IdOf(consumer.id),
-        "updated_at": consumer.updated_at,
-        "username": MaybeText(&consumer.username)
-    })
+    put_number(alloc, members, "created_at", consumer.created_at)?;
+    put_text(alloc, members, "custom_id", &consumer.custom_id)?;
+    put_id(alloc, members, "id", consumer.id)?;
+    put_number(alloc, members, "updated_at", consumer.updated_at)?;
+    put_text(alloc, members, "username", &consumer.username)
 }
 
-fn key_object(alloc: Global, credential: &KeyCred) -> Result<Value, AllocError>
-    ensures { IfOk result (λ v. view v ≡ shown_key credential.now) }
+fn put_key(
+    alloc: Global,
+    members: &mut Map<String, Value>,
+    credential: &KeyCred,
+) -> Result<(), AllocError>
+    ensures { OnOk result (members_view members.new.entries ≡ with_members (key_members credential.now) (members_view members.old.entries)) }
 {
-    json!(in alloc; {
-        "consumer": Reference(credential.consumer),
-        "created_at": credential.created_at,
-        "id": IdOf(credential.id),
-        "key": credential.key.as_str()
-    })
+    put_reference(alloc, members, "consumer", credential.consumer)?;
+    put_number(alloc, members, "created_at", credential.created_at)?;
+    put_id(alloc, members, "id", credential.id)?;
+    put_str(alloc, members, "key", credential.key.as_str())
 }
 
-fn basic_object(alloc: Global, credential: &BasicCred) -> Result<Value, AllocError>
-    ensures { IfOk result (λ v. view v ≡ shown_basic credential.now) }
+fn put_basic(
+    alloc: Global,
+    members: &mut Map<String, Value>,
+    credential: &BasicCred,
+) -> Result<(), AllocError>
+    ensures { OnOk result (members_view members.new.entries ≡ with_members (basic_members credential.now) (members_view members.old.entries)) }
 {
-    json!(in alloc; {
-        "consumer": Reference(credential.consumer),
-        "created_at": credential.created_at,
-        "id": IdOf(credential.id),
-        "password": credential.hash.as_str(),
-        "username": credential.username.as_str()
-    })
+    put_reference(alloc, members, "consumer", credential.consumer)?;
+    put_number(alloc, members, "created_at", credential.created_at)?;
+    put_id(alloc, members, "id", credential.id)?;
+    put_str(alloc, members, "password", credential.hash.as_str())?;
+    put_str(alloc, members, "username", credential.username.as_str())
 }
 
-fn acl_object(alloc: Global, row: &AclRow) -> Result<Value, AllocError>
-    ensures { IfOk result (λ v. view v ≡ shown_acl row.now) }
+fn put_acl(alloc: Global, members: &mut Map<String, Value>, row: &AclRow) -> Result<(), AllocError>
+    ensures { OnOk result (members_view members.new.entries ≡ with_members (acl_members row.now) (members_view members.old.entries)) }
 {
-    json!(in alloc; {
-        "consumer": Reference(row.consumer),
-        "created_at": row.created_at,
-        "group": row.group.as_str(),
-        "id": IdOf(row.id)
-    })
+    put_reference(alloc, members, "consumer", row.consumer)?;
+    put_number(alloc, members, "created_at", row.created_at)?;
+    put_str(alloc, members, "group", row.group.as_str())?;
+    put_id(alloc, members, "id", row.id)
 }
 
-fn plugin_object(alloc: Global, row: &PluginRow) -> Result<Value, AllocError>
-    ensures { IfOk result (λ v. view v ≡ shown_plugin row.now) }
+fn put_plugin(
+    alloc: Global,
+    members: &mut Map<String, Value>,
+    row: &PluginRow,
+) -> Result<(), AllocError>
+    ensures { OnOk result (members_view members.new.entries ≡ with_members (plugin_members row.now) (members_view members.old.entries)) }
 {
-    let config = config_object(alloc, &row.config)?;
-    json!(in alloc; {
-        "config": config,
-        "consumer": Link(row.scope.consumer),
-        "created_at": row.created_at,
-        "enabled": row.enabled,
-        "id": IdOf(row.id),
-        "name": row.config.name().as_str(),
-        "route": Link(row.scope.route),
-        "service": Link(row.scope.service)
-    })
+    put(members, alloc, "config", config_object(alloc, &row.config)?)?;
+    put_link(alloc, members, "consumer", row.scope.consumer)?;
+    put_number(alloc, members, "created_at", row.created_at)?;
+    put_flag(alloc, members, "enabled", row.enabled)?;
+    put_id(alloc, members, "id", row.id)?;
+    put_str(alloc, members, "name", row.config.name().as_str())?;
+    put_link(alloc, members, "route", row.scope.route)?;
+    put_link(alloc, members, "service", row.scope.service)
 }

@@ -1,9 +1,9 @@
-//! The parts of shown rows, as expressions of `json!`. What isn't set is null.
+//! The parts of shown rows, each put under its name. What isn't set is null.
 
-ghost use Rattle.std.specs.Prelude.{◌≡◌, IfOk, fold, map};
-ghost use Rattle.serde_json.specs.Data.{no_members, string};
+ghost use Rattle.std.specs.Prelude.{◌≡◌, IfOk, OnOk, fold, map};
+ghost use Rattle.serde_json.specs.Data.{boolean, no_members, put as with_member, string};
 ghost use Rattle.serde_json.specs.View.{view, members_view};
-ghost use Rattle.kg_shown_rows.specs.ShownParts.{shown_id, shown_link, shown_option, shown_reference, shown_text, shown_texts};
+ghost use Rattle.kg_shown_rows.specs.ShownParts.{shown_id, shown_link, shown_number, shown_option, shown_reference, shown_text, shown_texts};
 ghost use Rattle.kg_shown_rows.specs.ShownConfigs.{shown_edits, shown_header_edits};
 ghost use Rattle.kg_shown_rows.specs.Shown.{protocols_of, shown_headers, with_values};
 
@@ -11,143 +11,199 @@ use kg_row_types::config::Edits;
 use kg_row_types::id::Id;
 use kg_row_types::route::HeaderTest;
 use kg_text::{List, Text};
-use serde_json::{Map, ToValue, Value, json, put};
+use serde_json::{Map, Value, json, put};
 use std::alloc::{AllocError, Global};
 
-/// A row's id.
-pub struct IdOf(pub Id);
+/// A whole number.
+pub fn put_number(
+    alloc: Global,
+    members: &mut Map<String, Value>,
+    name: &str,
+    number: u64,
+) -> Result<(), AllocError>
+    ensures { OnOk result (members_view members.new.entries ≡ with_member name.now (shown_number number) (members_view members.old.entries)) }
+{
+    put(members, alloc, name, Value::from(number))
+}
 
-/// A row that another names.
-pub struct Reference(pub Id);
+/// A truth value.
+pub fn put_flag(
+    alloc: Global,
+    members: &mut Map<String, Value>,
+    name: &str,
+    flag: bool,
+) -> Result<(), AllocError>
+    ensures { OnOk result (members_view members.new.entries ≡ with_member name.now (boolean flag) (members_view members.old.entries)) }
+{
+    put(members, alloc, name, Value::from(flag))
+}
 
-/// A row that another may name.
-pub struct Link(pub Option<Id>);
+/// A text.
+pub fn put_str(
+    alloc: Global,
+    members: &mut Map<String, Value>,
+    name: &str,
+    text: &str,
+) -> Result<(), AllocError>
+    ensures { OnOk result (members_view members.new.entries ≡ with_member name.now (string text.now) (members_view members.old.entries)) }
+{
+    put(members, alloc, name, Value::try_from_str(alloc, text)?)
+}
 
 /// A number that may be unset.
-pub struct MaybeNumber(pub Option<u64>);
+pub fn put_option(
+    alloc: Global,
+    members: &mut Map<String, Value>,
+    name: &str,
+    number: Option<u64>,
+) -> Result<(), AllocError>
+    ensures { OnOk result (members_view members.new.entries ≡ with_member name.now (shown_option number) (members_view members.old.entries)) }
+{
+    put(members, alloc, name, option_value(number))
+}
 
 /// A text that may be unset.
-pub struct MaybeText<'a>(pub &'a Option<Text>);
+pub fn put_text(
+    alloc: Global,
+    members: &mut Map<String, Value>,
+    name: &str,
+    text: &Option<Text>,
+) -> Result<(), AllocError>
+    ensures { OnOk result (members_view members.new.entries ≡ with_member name.now (shown_text text.now) (members_view members.old.entries)) }
+{
+    put(members, alloc, name, text_value(alloc, text)?)
+}
 
 /// A list of texts.
-pub struct Texts<'a>(pub &'a List<Text>);
+pub fn put_texts(
+    alloc: Global,
+    members: &mut Map<String, Value>,
+    name: &str,
+    texts: &List<Text>,
+) -> Result<(), AllocError>
+    ensures { OnOk result (members_view members.new.entries ≡ with_member name.now (shown_texts texts.now) (members_view members.old.entries)) }
+{
+    put(members, alloc, name, list_value(alloc, texts.as_slice())?)
+}
+
+/// A row's id.
+pub fn put_id(
+    alloc: Global,
+    members: &mut Map<String, Value>,
+    name: &str,
+    id: Id,
+) -> Result<(), AllocError>
+    ensures { OnOk result (members_view members.new.entries ≡ with_member name.now (shown_id id) (members_view members.old.entries)) }
+{
+    put(members, alloc, name, id_value(alloc, id)?)
+}
+
+/// A row that another names.
+pub fn put_reference(
+    alloc: Global,
+    members: &mut Map<String, Value>,
+    name: &str,
+    id: Id,
+) -> Result<(), AllocError>
+    ensures { OnOk result (members_view members.new.entries ≡ with_member name.now (shown_reference id) (members_view members.old.entries)) }
+{
+    put(members, alloc, name, reference_object(alloc, id)?)
+}
+
+/// A row that another may name.
+pub fn put_link(
+    alloc: Global,
+    members: &mut Map<String, Value>,
+    name: &str,
+    id: Option<Id>,
+) -> Result<(), AllocError>
+    ensures { OnOk result (members_view members.new.entries ≡ with_member name.now (shown_link id) (members_view members.old.entries)) }
+{
+    put(members, alloc, name, link_value(alloc, id)?)
+}
 
 /// The headers that a route asks for.
-pub struct HeaderTests<'a>(pub &'a List<HeaderTest>);
+pub fn put_headers(
+    alloc: Global,
+    members: &mut Map<String, Value>,
+    name: &str,
+    tests: &List<HeaderTest>,
+) -> Result<(), AllocError>
+    ensures { OnOk result (members_view members.new.entries ≡ with_member name.now (shown_headers tests.now) (members_view members.old.entries)) }
+{
+    put(
+        members,
+        alloc,
+        name,
+        headers_value(alloc, tests.as_slice())?,
+    )
+}
 
 /// The protocols of a route, which takes `https` or not.
-pub struct Protocols(pub bool);
+pub fn put_protocols(
+    alloc: Global,
+    members: &mut Map<String, Value>,
+    name: &str,
+    https: bool,
+) -> Result<(), AllocError>
+    ensures { OnOk result (members_view members.new.entries ≡ with_member name.now (shown_texts (protocols_of https)) (members_view members.old.entries)) }
+{
+    put(members, alloc, name, protocols_value(alloc, https)?)
+}
 
 /// One step of a request's change.
-pub struct EditsOf<'a>(pub &'a Edits);
-
-/// One step of a reply's change.
-pub struct HeaderEdits<'a>(pub &'a List<Text>);
-
-impl ToValue for IdOf {
-    ghost gives = { λ id v. view v ≡ shown_id id.0 };
-
-    fn to_value(self, alloc: Global) -> Result<Value, AllocError> {
-        let IdOf(id) = self;
-        id_value(alloc, id)
-    }
-}
-
-impl ToValue for Reference {
-    ghost gives = { λ row v. view v ≡ shown_reference row.0 };
-
-    fn to_value(self, alloc: Global) -> Result<Value, AllocError> {
-        let Reference(id) = self;
-        reference_object(alloc, id)
-    }
-}
-
-impl ToValue for Link {
-    ghost gives = { λ row v. view v ≡ shown_link row.0 };
-
-    fn to_value(self, alloc: Global) -> Result<Value, AllocError> {
-        let Link(id) = self;
-        match id {
-            Some(id) => reference_object(alloc, id),
-            None => Ok(Value::Null),
-        }
-    }
-}
-
-impl ToValue for MaybeNumber {
-    ghost gives = { λ number v. view v ≡ shown_option number.0 };
-
-    fn to_value(self, _alloc: Global) -> Result<Value, AllocError> {
-        let MaybeNumber(number) = self;
-        match number {
-            Some(number) => Ok(Value::from(number)),
-            None => Ok(Value::Null),
-        }
-    }
-}
-
-impl ToValue for MaybeText<'_> {
-    ghost gives = { λ text v. view v ≡ shown_text text.0.now };
-
-    fn to_value(self, alloc: Global) -> Result<Value, AllocError> {
-        let MaybeText(text) = self;
-        match text {
-            Some(text) => Value::try_from_str(alloc, text.as_str()),
-            None => Ok(Value::Null),
-        }
-    }
-}
-
-impl ToValue for Texts<'_> {
-    ghost gives = { λ texts v. view v ≡ shown_texts texts.0.now };
-
-    fn to_value(self, alloc: Global) -> Result<Value, AllocError> {
-        let Texts(texts) = self;
-        list_value(alloc, texts.as_slice())
-    }
-}
-
-impl ToValue for HeaderTests<'_> {
-    ghost gives = { λ tests v. view v ≡ shown_headers tests.0.now };
-
-    fn to_value(self, alloc: Global) -> Result<Value, AllocError> {
-        let HeaderTests(tests) = self;
-        headers_value(alloc, tests.as_slice())
-    }
-}
-
-impl ToValue for Protocols {
-    ghost gives = { λ protocols v. view v ≡ shown_texts (protocols_of protocols.0) };
-
-    fn to_value(self, alloc: Global) -> Result<Value, AllocError> {
-        let Protocols(https) = self;
-        if https {
-            json!(in alloc; ["http", "https"])
-        } else {
-            json!(in alloc; ["http"])
-        }
-    }
-}
-
-impl ToValue for EditsOf<'_> {
-    ghost gives = { λ edits v. view v ≡ shown_edits edits.0.now };
-
-    fn to_value(self, alloc: Global) -> Result<Value, AllocError> {
-        let EditsOf(edits) = self;
+pub fn put_edits(
+    alloc: Global,
+    members: &mut Map<String, Value>,
+    name: &str,
+    edits: &Edits,
+) -> Result<(), AllocError>
+    ensures { OnOk result (members_view members.new.entries ≡ with_member name.now (shown_edits edits.now) (members_view members.old.entries)) }
+{
+    put(
+        members,
+        alloc,
+        name,
         edits_value(
             alloc,
             edits.headers.as_slice(),
             edits.querystring.as_slice(),
-        )
+        )?,
+    )
+}
+
+/// One step of a reply's change.
+pub fn put_header_edits(
+    alloc: Global,
+    members: &mut Map<String, Value>,
+    name: &str,
+    headers: &List<Text>,
+) -> Result<(), AllocError>
+    ensures { OnOk result (members_view members.new.entries ≡ with_member name.now (shown_header_edits headers.now) (members_view members.old.entries)) }
+{
+    put(
+        members,
+        alloc,
+        name,
+        header_edits_value(alloc, headers.as_slice())?,
+    )
+}
+
+fn option_value(number: Option<u64>) -> Value
+    ensures { view result ≡ shown_option number }
+{
+    match number {
+        Some(number) => Value::from(number),
+        None => Value::Null,
     }
 }
 
-impl ToValue for HeaderEdits<'_> {
-    ghost gives = { λ headers v. view v ≡ shown_header_edits headers.0.now };
-
-    fn to_value(self, alloc: Global) -> Result<Value, AllocError> {
-        let HeaderEdits(headers) = self;
-        header_edits_value(alloc, headers.as_slice())
+fn text_value(alloc: Global, text: &Option<Text>) -> Result<Value, AllocError>
+    ensures { IfOk result (λ v. view v ≡ shown_text text.now) }
+{
+    match text {
+        Some(text) => Value::try_from_str(alloc, text.as_str()),
+        None => Ok(Value::Null),
     }
 }
 
@@ -163,7 +219,28 @@ fn id_value(alloc: Global, id: Id) -> Result<Value, AllocError>
 fn reference_object(alloc: Global, id: Id) -> Result<Value, AllocError>
     ensures { IfOk result (λ v. view v ≡ shown_reference id) }
 {
-    json!(in alloc; {"id": IdOf(id)})
+    let mut members = Map::new(alloc);
+    put(&mut members, alloc, "id", id_value(alloc, id)?)?;
+    Ok(Value::from(members))
+}
+
+fn link_value(alloc: Global, id: Option<Id>) -> Result<Value, AllocError>
+    ensures { IfOk result (λ v. view v ≡ shown_link id) }
+{
+    match id {
+        Some(id) => reference_object(alloc, id),
+        None => Ok(Value::Null),
+    }
+}
+
+fn protocols_value(alloc: Global, https: bool) -> Result<Value, AllocError>
+    ensures { IfOk result (λ v. view v ≡ shown_texts (protocols_of https)) }
+{
+    if https {
+        json!(in alloc; ["http", "https"])
+    } else {
+        json!(in alloc; ["http"])
+    }
 }
 
 fn list_value(alloc: Global, texts: &[Text]) -> Result<Value, AllocError>
