@@ -4,7 +4,6 @@ ghost use Rattle.std.specs.Prelude.{◌≡◌, ◌/◌, [], Some, IfOk, unwrap_o
 ghost use Rattle.std.specs.Option.{option_copied};
 ghost use Rattle.serde_json.specs.View.{view};
 ghost use Rattle.kg_row_making.specs.Bases.{acl_of, base_of, basic_of, consumer_of, fixed_id, given_word, key_of, made_at, old_as, plugin_row_of, route_of, service_of, stamps_of};
-ghost use Rattle.kg_row_types.specs.Entities.{id_of_row};
 ghost use Rattle.kg_bodies.specs.Settings.{id_at};
 
 use kg_bodies::settings::id_at;
@@ -35,7 +34,7 @@ pub enum Base<'a> {
 
 /// The rows that a row names, by their ids: those of its body, or of the parent under which it
 /// stands.
-#[derive(Clone, Copy, Debug, PartialEq, Eq)]
+#[derive(Clone, Copy)]
 pub struct Links {
     pub service: Option<Id>,
     pub route: Option<Id>,
@@ -43,7 +42,7 @@ pub struct Links {
 }
 
 /// A field that names a parent.
-#[derive(Clone, Copy, Debug, PartialEq, Eq)]
+#[derive(Clone, Copy)]
 pub enum ParentField {
     Service,
     Route,
@@ -51,7 +50,7 @@ pub enum ParentField {
 }
 
 /// The id and the times of a row; the times are in seconds.
-#[derive(Clone, Copy, Debug, PartialEq, Eq)]
+#[derive(Clone, Copy)]
 pub struct Stamps {
     pub id: Id,
     pub created_at: u64,
@@ -99,7 +98,7 @@ impl Base<'_> {
             Base::New { .. } => None,
             Base::Again { id, .. } => Some(*id),
             Base::Word { .. } => None,
-            Base::Old { row, .. } => Some(id_of_row(row)),
+            Base::Old { row, .. } => Some(row.id()),
         }
     }
 
@@ -120,7 +119,7 @@ impl Base<'_> {
             },
             Base::Word { id, now, .. } => new_stamps(*id, *now, body),
             Base::Old { row, now } => Stamps {
-                id: id_of_row(row),
+                id: row.id(),
                 created_at: made_at(row),
                 updated_at: *now / 1000,
             },
@@ -213,21 +212,8 @@ fn new_stamps(id: Id, now: u64, body: &Value) -> Stamps
     }
 }
 
-fn id_of_row(row: &Entity) -> Id
-    ensures { result ≡ id_of_row row.now }
-{
-    match row {
-        Entity::Service(row) => row.id,
-        Entity::Route(row) => row.id,
-        Entity::Consumer(row) => row.id,
-        Entity::KeyCred(row) => row.id,
-        Entity::BasicCred(row) => row.id,
-        Entity::Acl(row) => row.id,
-        Entity::Plugin(row) => row.id,
-    }
-}
-
-fn made_at(row: &Entity) -> u64
+/// The time at which a row was made, in seconds.
+pub fn made_at(row: &Entity) -> u64
     ensures { result ≡ made_at row.now }
 {
     match row {

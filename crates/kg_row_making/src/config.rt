@@ -1,6 +1,6 @@
 //! The configs that bodies make for plugins.
 
-ghost use Rattle.std.specs.Prelude.{◌≡◌, IfOk};
+ghost use Rattle.std.specs.Prelude.{◌≡◌, OnOk};
 ghost use Rattle.serde_json.specs.View.{view};
 ghost use Rattle.kg_row_making.specs.FinishedConfigs.{basic_auth_over, config_over, cors_over, edits_over, groups_over, header_edits_over, ip_restriction_over, key_auth_over, rate_limiting_over, request_transformer_over, response_transformer_over, size_limit_over, termination_over};
 
@@ -18,336 +18,293 @@ use std::alloc::Global;
 
 const MOST: u64 = 1000000000;
 
-/// The config with what the body sets.
-pub fn config_over(alloc: Global, config: &Value, before: Config) -> Result<Config, NoMemory>
-    ensures { IfOk result (λ made. made ≡ config_over (view config.now) before) }
+/// Sets in a config what the body sets.
+pub fn set_config(alloc: Global, config: &Value, place: &mut Config) -> Result<(), NoMemory>
+    ensures { OnOk result (place.new ≡ config_over (view config.now) place.old) }
 {
-    match before {
-        Config::Cors(before) => Ok(Config::Cors(cors_over(alloc, config, before)?)),
-        Config::KeyAuth(before) => Ok(Config::KeyAuth(key_auth_over(alloc, config, before)?)),
-        Config::BasicAuth(before) => Ok(Config::BasicAuth(basic_auth_over(alloc, config, before)?)),
-        Config::IpRestriction(before) => Ok(Config::IpRestriction(ip_restriction_over(
-            alloc, config, before,
-        )?)),
-        Config::RequestSizeLimiting(before) => Ok(Config::RequestSizeLimiting(size_limit_over(
-            alloc, config, before,
-        )?)),
-        Config::Acl(before) => Ok(Config::Acl(groups_over(alloc, config, before)?)),
-        Config::RateLimiting(before) => Ok(Config::RateLimiting(rate_limiting_over(
-            alloc, config, before,
-        )?)),
-        Config::RequestTransformer(before) => Ok(Config::RequestTransformer(
-            request_transformer_over(alloc, config, before)?,
-        )),
-        Config::ResponseTransformer(before) => Ok(Config::ResponseTransformer(
-            response_transformer_over(alloc, config, before)?,
-        )),
-        Config::RequestTermination(before) => Ok(Config::RequestTermination(termination_over(
-            alloc, config, before,
-        )?)),
+    match place {
+        Config::Cors(place) => set_cors(alloc, config, place),
+        Config::KeyAuth(place) => set_key_auth(alloc, config, place),
+        Config::BasicAuth(place) => set_basic_auth(alloc, config, place),
+        Config::IpRestriction(place) => set_ip_restriction(alloc, config, place),
+        Config::RequestSizeLimiting(place) => set_size_limit(alloc, config, place),
+        Config::Acl(place) => set_groups(alloc, config, place),
+        Config::RateLimiting(place) => set_rate_limiting(alloc, config, place),
+        Config::RequestTransformer(place) => set_request_transformer(alloc, config, place),
+        Config::ResponseTransformer(place) => set_response_transformer(alloc, config, place),
+        Config::RequestTermination(place) => set_termination(alloc, config, place),
     }
 }
 
-fn cors_over(alloc: Global, config: &Value, before: Cors) -> Result<Cors, NoMemory>
-    ensures { IfOk result (λ made. made ≡ cors_over (view config.now) before) }
+fn set_cors(alloc: Global, config: &Value, place: &mut Cors) -> Result<(), NoMemory>
+    ensures { OnOk result (place.new ≡ cors_over (view config.now) place.old) }
 {
-    let mut made = before;
     set_list(
-        &mut made.origins,
+        &mut place.origins,
         texts_at(alloc, Word::FreeText, "origins", config)?,
     );
     set_list(
-        &mut made.methods,
+        &mut place.methods,
         texts_at(alloc, Word::Method, "methods", config)?,
     );
     set_list(
-        &mut made.headers,
+        &mut place.headers,
         texts_at(alloc, Word::FreeText, "headers", config)?,
     );
     set_list(
-        &mut made.exposed_headers,
+        &mut place.exposed_headers,
         texts_at(alloc, Word::FreeText, "exposed_headers", config)?,
     );
-    set(&mut made.credentials, flag_at("credentials", config));
+    set(&mut place.credentials, flag_at("credentials", config));
     set_option(
-        &mut made.max_age,
+        &mut place.max_age,
         whole_at(alloc, 0, MOST, "max_age", config)?,
     );
     set(
-        &mut made.preflight_continue,
+        &mut place.preflight_continue,
         flag_at("preflight_continue", config),
     );
-    Ok(made)
+    Ok(())
 }
 
-fn key_auth_over(alloc: Global, config: &Value, before: KeyAuth) -> Result<KeyAuth, NoMemory>
-    ensures { IfOk result (λ made. made ≡ key_auth_over (view config.now) before) }
+fn set_key_auth(alloc: Global, config: &Value, place: &mut KeyAuth) -> Result<(), NoMemory>
+    ensures { OnOk result (place.new ≡ key_auth_over (view config.now) place.old) }
 {
-    let mut made = before;
     set_list(
-        &mut made.key_names,
+        &mut place.key_names,
         texts_at(alloc, Word::Token, "key_names", config)?,
     );
-    set(&mut made.key_in_header, flag_at("key_in_header", config));
-    set(&mut made.key_in_query, flag_at("key_in_query", config));
+    set(&mut place.key_in_header, flag_at("key_in_header", config));
+    set(&mut place.key_in_query, flag_at("key_in_query", config));
     set(
-        &mut made.hide_credentials,
+        &mut place.hide_credentials,
         flag_at("hide_credentials", config),
     );
     set_option(
-        &mut made.anonymous,
+        &mut place.anonymous,
         text_at(alloc, Word::Anonymous, "anonymous", config)?,
     );
-    Ok(made)
+    Ok(())
 }
 
-fn basic_auth_over(alloc: Global, config: &Value, before: BasicAuth) -> Result<BasicAuth, NoMemory>
-    ensures { IfOk result (λ made. made ≡ basic_auth_over (view config.now) before) }
+fn set_basic_auth(alloc: Global, config: &Value, place: &mut BasicAuth) -> Result<(), NoMemory>
+    ensures { OnOk result (place.new ≡ basic_auth_over (view config.now) place.old) }
 {
-    let mut made = before;
     set(
-        &mut made.hide_credentials,
+        &mut place.hide_credentials,
         flag_at("hide_credentials", config),
     );
     set_option(
-        &mut made.anonymous,
+        &mut place.anonymous,
         text_at(alloc, Word::Anonymous, "anonymous", config)?,
     );
-    Ok(made)
+    Ok(())
 }
 
-fn ip_restriction_over(
+fn set_ip_restriction(
     alloc: Global,
     config: &Value,
-    before: IpRestriction,
-) -> Result<IpRestriction, NoMemory>
-    ensures { IfOk result (λ made. made ≡ ip_restriction_over (view config.now) before) }
+    place: &mut IpRestriction,
+) -> Result<(), NoMemory>
+    ensures { OnOk result (place.new ≡ ip_restriction_over (view config.now) place.old) }
 {
-    let mut made = before;
     set_list(
-        &mut made.allow,
+        &mut place.allow,
         texts_at(alloc, Word::AddressBlock, "allow", config)?,
     );
     set_list(
-        &mut made.deny,
+        &mut place.deny,
         texts_at(alloc, Word::AddressBlock, "deny", config)?,
     );
-    Ok(made)
+    Ok(())
 }
 
-fn size_limit_over(alloc: Global, config: &Value, before: SizeLimit) -> Result<SizeLimit, NoMemory>
-    ensures { IfOk result (λ made. made ≡ size_limit_over (view config.now) before) }
+fn set_size_limit(alloc: Global, config: &Value, place: &mut SizeLimit) -> Result<(), NoMemory>
+    ensures { OnOk result (place.new ≡ size_limit_over (view config.now) place.old) }
 {
-    let mut made = before;
     set(
-        &mut made.allowed_payload_size,
+        &mut place.allowed_payload_size,
         whole_at(alloc, 1, MOST, "allowed_payload_size", config)?,
     );
-    set(&mut made.size_unit, size_unit_at(config));
-    Ok(made)
+    set(&mut place.size_unit, size_unit_at(config));
+    Ok(())
 }
 
-fn groups_over(alloc: Global, config: &Value, before: Acl) -> Result<Acl, NoMemory>
-    ensures { IfOk result (λ made. made ≡ groups_over (view config.now) before) }
+fn set_groups(alloc: Global, config: &Value, place: &mut Acl) -> Result<(), NoMemory>
+    ensures { OnOk result (place.new ≡ groups_over (view config.now) place.old) }
 {
-    let mut made = before;
     set_list(
-        &mut made.allow,
+        &mut place.allow,
         texts_at(alloc, Word::FreeText, "allow", config)?,
     );
     set_list(
-        &mut made.deny,
+        &mut place.deny,
         texts_at(alloc, Word::FreeText, "deny", config)?,
     );
     set(
-        &mut made.hide_groups_header,
+        &mut place.hide_groups_header,
         flag_at("hide_groups_header", config),
     );
-    Ok(made)
+    Ok(())
 }
 
-fn rate_limiting_over(
+fn set_rate_limiting(
     alloc: Global,
     config: &Value,
-    before: RateLimiting,
-) -> Result<RateLimiting, NoMemory>
-    ensures { IfOk result (λ made. made ≡ rate_limiting_over (view config.now) before) }
+    place: &mut RateLimiting,
+) -> Result<(), NoMemory>
+    ensures { OnOk result (place.new ≡ rate_limiting_over (view config.now) place.old) }
 {
-    let mut made = before;
     set_option(
-        &mut made.second,
+        &mut place.second,
         whole_at(alloc, 1, MOST, "second", config)?,
     );
     set_option(
-        &mut made.minute,
+        &mut place.minute,
         whole_at(alloc, 1, MOST, "minute", config)?,
     );
-    set_option(&mut made.hour, whole_at(alloc, 1, MOST, "hour", config)?);
-    set_option(&mut made.day, whole_at(alloc, 1, MOST, "day", config)?);
-    set(&mut made.limit_by, limit_by_at(config));
+    set_option(&mut place.hour, whole_at(alloc, 1, MOST, "hour", config)?);
+    set_option(&mut place.day, whole_at(alloc, 1, MOST, "day", config)?);
+    set(&mut place.limit_by, limit_by_at(config));
     set(
-        &mut made.hide_client_headers,
+        &mut place.hide_client_headers,
         flag_at("hide_client_headers", config),
     );
-    Ok(made)
+    Ok(())
 }
 
-// The lists of one step of a request's change. Where neither is set, the step isn't.
-fn edits_over(
+// Sets the lists of one step of a request's change. Where neither is set, the step isn't.
+fn set_edits(
     alloc: Global,
     in_headers: Word,
     step: &Value,
-    before: Edits,
-) -> Result<Edits, NoMemory>
-    ensures { IfOk result (λ made. made ≡ edits_over in_headers (view step.now) before) }
+    place: &mut Edits,
+) -> Result<(), NoMemory>
+    ensures { OnOk result (place.new ≡ edits_over in_headers (view step.now) place.old) }
 {
     let headers = texts_at(alloc, in_headers, "headers", step)?;
     let querystring = texts_at(alloc, Word::Edit, "querystring", step)?;
     if headers.as_slice().is_empty() && querystring.as_slice().is_empty() {
-        Ok(before)
-    } else {
-        Ok(Edits {
-            headers,
-            querystring,
-        })
+        return Ok(());
     }
+    place.headers = headers;
+    place.querystring = querystring;
+    Ok(())
 }
 
-fn request_transformer_over(
+fn set_request_transformer(
     alloc: Global,
     config: &Value,
-    before: RequestTransformer,
-) -> Result<RequestTransformer, NoMemory>
-    ensures { IfOk result (λ made. made ≡ request_transformer_over (view config.now) before) }
+    place: &mut RequestTransformer,
+) -> Result<(), NoMemory>
+    ensures { OnOk result (place.new ≡ request_transformer_over (view config.now) place.old) }
 {
     let null = Value::Null;
-    let RequestTransformer {
-        remove,
-        rename,
-        replace,
-        add,
-        append,
-    } = before;
-    Ok(RequestTransformer {
-        remove: edits_over(
-            alloc,
-            Word::HeaderEdit,
-            member_or("remove", config, &null),
-            remove,
-        )?,
-        rename: edits_over(
-            alloc,
-            Word::HeaderRename,
-            member_or("rename", config, &null),
-            rename,
-        )?,
-        replace: edits_over(
-            alloc,
-            Word::HeaderEdit,
-            member_or("replace", config, &null),
-            replace,
-        )?,
-        add: edits_over(
-            alloc,
-            Word::HeaderEdit,
-            member_or("add", config, &null),
-            add,
-        )?,
-        append: edits_over(
-            alloc,
-            Word::HeaderEdit,
-            member_or("append", config, &null),
-            append,
-        )?,
-    })
+    set_edits(
+        alloc,
+        Word::HeaderEdit,
+        member_or("remove", config, &null),
+        &mut place.remove,
+    )?;
+    set_edits(
+        alloc,
+        Word::HeaderRename,
+        member_or("rename", config, &null),
+        &mut place.rename,
+    )?;
+    set_edits(
+        alloc,
+        Word::HeaderEdit,
+        member_or("replace", config, &null),
+        &mut place.replace,
+    )?;
+    set_edits(
+        alloc,
+        Word::HeaderEdit,
+        member_or("add", config, &null),
+        &mut place.add,
+    )?;
+    set_edits(
+        alloc,
+        Word::HeaderEdit,
+        member_or("append", config, &null),
+        &mut place.append,
+    )?;
+    Ok(())
 }
 
-// The list of one step of a reply's change.
-fn header_edits_over(
+// Sets the list of one step of a reply's change.
+fn set_header_edits(
     alloc: Global,
     kind: Word,
     step: &Value,
-    before: List<Text>,
-) -> Result<List<Text>, NoMemory>
-    ensures { IfOk result (λ made. made ≡ header_edits_over kind (view step.now) before) }
+    place: &mut List<Text>,
+) -> Result<(), NoMemory>
+    ensures { OnOk result (place.new ≡ header_edits_over kind (view step.now) place.old) }
 {
-    let mut made = before;
-    set_list(&mut made, texts_at(alloc, kind, "headers", step)?);
-    Ok(made)
+    set_list(place, texts_at(alloc, kind, "headers", step)?);
+    Ok(())
 }
 
-fn response_transformer_over(
+fn set_response_transformer(
     alloc: Global,
     config: &Value,
-    before: ResponseTransformer,
-) -> Result<ResponseTransformer, NoMemory>
-    ensures { IfOk result (λ made. made ≡ response_transformer_over (view config.now) before) }
+    place: &mut ResponseTransformer,
+) -> Result<(), NoMemory>
+    ensures { OnOk result (place.new ≡ response_transformer_over (view config.now) place.old) }
 {
     let null = Value::Null;
-    let ResponseTransformer {
-        remove,
-        rename,
-        replace,
-        add,
-        append,
-    } = before;
-    Ok(ResponseTransformer {
-        remove: header_edits_over(
-            alloc,
-            Word::HeaderEdit,
-            member_or("remove", config, &null),
-            remove,
-        )?,
-        rename: header_edits_over(
-            alloc,
-            Word::HeaderRename,
-            member_or("rename", config, &null),
-            rename,
-        )?,
-        replace: header_edits_over(
-            alloc,
-            Word::HeaderEdit,
-            member_or("replace", config, &null),
-            replace,
-        )?,
-        add: header_edits_over(
-            alloc,
-            Word::HeaderEdit,
-            member_or("add", config, &null),
-            add,
-        )?,
-        append: header_edits_over(
-            alloc,
-            Word::HeaderEdit,
-            member_or("append", config, &null),
-            append,
-        )?,
-    })
+    set_header_edits(
+        alloc,
+        Word::HeaderEdit,
+        member_or("remove", config, &null),
+        &mut place.remove,
+    )?;
+    set_header_edits(
+        alloc,
+        Word::HeaderRename,
+        member_or("rename", config, &null),
+        &mut place.rename,
+    )?;
+    set_header_edits(
+        alloc,
+        Word::HeaderEdit,
+        member_or("replace", config, &null),
+        &mut place.replace,
+    )?;
+    set_header_edits(
+        alloc,
+        Word::HeaderEdit,
+        member_or("add", config, &null),
+        &mut place.add,
+    )?;
+    set_header_edits(
+        alloc,
+        Word::HeaderEdit,
+        member_or("append", config, &null),
+        &mut place.append,
+    )?;
+    Ok(())
 }
 
-fn termination_over(
-    alloc: Global,
-    config: &Value,
-    before: Termination,
-) -> Result<Termination, NoMemory>
-    ensures { IfOk result (λ made. made ≡ termination_over (view config.now) before) }
+fn set_termination(alloc: Global, config: &Value, place: &mut Termination) -> Result<(), NoMemory>
+    ensures { OnOk result (place.new ≡ termination_over (view config.now) place.old) }
 {
-    let mut made = before;
     set(
-        &mut made.status_code,
+        &mut place.status_code,
         narrow(whole_at(alloc, 200, 599, "status_code", config)?),
     );
     set_option(
-        &mut made.message,
+        &mut place.message,
         text_at(alloc, Word::FreeText, "message", config)?,
     );
     set_option(
-        &mut made.body,
+        &mut place.body,
         text_at(alloc, Word::LongText, "body", config)?,
     );
     set_option(
-        &mut made.content_type,
+        &mut place.content_type,
         text_at(alloc, Word::FreeText, "content_type", config)?,
     );
-    Ok(made)
+    Ok(())
 }
