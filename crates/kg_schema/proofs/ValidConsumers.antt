@@ -1,5 +1,5 @@
 -- Finished consumers, credentials and memberships are valid.
-use Rattle.std.proofs.Common.{◌≡◌, inl, inr, ℕ, ◌==◌, Bool, true, false, not, ◌&&◌, ◌||◌, List, [], ◌++◌, length, Option, Some, None, is_none, is_some, unwrap_or, codes, refl}
+use Rattle.std.proofs.Common.{◌≡◌, inl, inr, ℕ, ◌==◌, Bool, true, false, not, ◌&&◌, ◌||◌, List, [], ◌++◌, length, Option, Some, None, is_none, is_some, option_map, unwrap_or, codes, refl}
 use Rattle.std.specs.Option.{option_map_or}
 use Rattle.std.specs.Prelude.{IfSome, IsTrue}
 use Rattle.serde_json.specs.Data.{Data}
@@ -13,7 +13,7 @@ use Rattle.kg_schema.proofs.KeptPasswords.{stored_password_ok}
 use Rattle.kg_schema.proofs.ReadTexts.{takes_accepted, takes_free_text, takes_username, text_ok}
 use Rattle.kg_schema.proofs.ValidParts.{OrEmpty, filled, neither, not_broken, or_ok, unwrapped_ok}
 use Rattle.kg_row_making.specs.Bases.{BaseValue, New, Again, Word, Old, acl_of, basic_of, key_of, old_as, stamps_of}
-use Rattle.kg_schema.specs.Between.{acl_faults, basic_faults, consumer_faults, fault_if, is_missing, key_faults}
+use Rattle.kg_schema.specs.Between.{acl_faults, basic_faults, consumer_faults, fault_if, key_faults, owner_faults}
 use Rattle.kg_schema.specs.Finished.{acl_before, acl_over, basic_before, basic_over, consumer_before, consumer_over, key_before, key_over}
 use Rattle.kg_bodies.specs.Settings.{text_at}
 use Rattle.kg_schema.specs.ValidBases.{IsValidBase}
@@ -89,7 +89,7 @@ pub key_ok : (body : Data) (base : BaseValue) (links : Links) → IsValidBase ki
 key_ok body base links ok none =
     let before = key_before base (stamps_of base body) in
     let after = key_over body links before in
-    let told = neither (fault_if (is_missing links.consumer (old_as key_of base)) (codes "consumer") Required) (fault_if (length after.key == 0) (codes "key") Required) none in
+    let told = neither (owner_faults links (option_map (λ old. old.consumer) (old_as key_of base))) (fault_if (length after.key == 0) (codes "key") Required) none in
     record { key = set_or_before (codes "key") body before.key (key_before_ok base (stamps_of base body) ok) (not_broken (length after.key == 0) (codes "key") Required told.1) }
 
 -- ---- passwords
@@ -121,8 +121,8 @@ pub basic_ok : (body : Data) (base : BaseValue) (links : Links) → IsValidBase 
 basic_ok body base links ok none =
     let before = basic_before base (stamps_of base body) in
     let after = basic_over body links before in
-    let names = neither (fault_if (is_missing links.consumer (old_as basic_of base)) (codes "consumer") Required ++ fault_if (length after.username == 0) (codes "username") Required) (fault_if (length after.hash == 0) (codes "password") Required) none in
-    let told = neither (fault_if (is_missing links.consumer (old_as basic_of base)) (codes "consumer") Required) (fault_if (length after.username == 0) (codes "username") Required) names.0 in
+    let names = neither (owner_faults links (option_map (λ old. old.consumer) (old_as basic_of base)) ++ fault_if (length after.username == 0) (codes "username") Required) (fault_if (length after.hash == 0) (codes "password") Required) none in
+    let told = neither (owner_faults links (option_map (λ old. old.consumer) (old_as basic_of base))) (fault_if (length after.username == 0) (codes "username") Required) names.0 in
     record {
       username = set_or_before (codes "username") body before.username (basic_username_ok base (stamps_of base body) ok) (not_broken (length after.username == 0) (codes "username") Required told.1);
       hash = filled IsHash after.hash (hash_over_ok (unwrap_or links.consumer before.consumer) (text_at word.FreeText (codes "password") body) before.hash (basic_hash_ok base (stamps_of base body) ok)) (not_broken (length after.hash == 0) (codes "password") Required names.1);
@@ -143,5 +143,5 @@ pub acl_ok : (body : Data) (base : BaseValue) (links : Links) → IsValidBase ki
 acl_ok body base links ok none =
     let before = acl_before base (stamps_of base body) in
     let after = acl_over body links before in
-    let told = neither (fault_if (is_missing links.consumer (old_as acl_of base)) (codes "consumer") Required) (fault_if (length after.group == 0) (codes "group") Required) none in
+    let told = neither (owner_faults links (option_map (λ old. old.consumer) (old_as acl_of base))) (fault_if (length after.group == 0) (codes "group") Required) none in
     record { group = set_or_before (codes "group") body before.group (acl_before_ok base (stamps_of base body) ok) (not_broken (length after.group == 0) (codes "group") Required told.1) }

@@ -10,7 +10,7 @@ use Rattle.kg_schema.proofs.ValidPlugins.{plugin_ok}
 use Rattle.kg_schema.proofs.ValidRoutes.{route_ok}
 use Rattle.kg_schema.proofs.ValidServices.{service_ok}
 use Rattle.kg_row_making.specs.Bases.{BaseValue}
-use Rattle.kg_schema.specs.Between.{faults_between, id_faults, is_renamed, row_faults, strange_faults, word_faults}
+use Rattle.kg_schema.specs.Between.{faults_between, id_faults, is_renamed, row_faults, parent_faults, word_faults}
 use Rattle.kg_schema.specs.Finished.{row_over}
 use Rattle.kg_field_rules.specs.Rules.{Fault}
 use Rattle.kg_schema.specs.ValidBases.{IsValidBase}
@@ -24,13 +24,13 @@ not_renamed true faults none = cc
 not_renamed false faults none = none
 
 -- nothing is told of the finished row
-row_told : (wanted : Kind) (body : Data) (base : BaseValue) (links : Links) (strange : Option ParentField)
-    → faults_between wanted body base links strange ≡ [] → row_faults body base links (row_over wanted body base links) ≡ []
+row_told : (wanted : Kind) (body : Data) (base : BaseValue) (links : Links) (contradicted : Option ParentField)
+    → faults_between wanted body base links contradicted ≡ [] → row_faults body base links (row_over wanted body base links) ≡ []
 unfolding faults_between
-row_told wanted body base links strange none =
+row_told wanted body base links contradicted none =
     let row = row_faults body base links (row_over wanted body base links) in
-    let all = not_renamed (is_renamed wanted body base) (id_faults body base ++ word_faults wanted body base ++ strange_faults strange ++ row) none in
-    (neither (id_faults body base ++ word_faults wanted body base ++ strange_faults strange) row all).1
+    let all = not_renamed (is_renamed wanted body base) (id_faults body base ++ word_faults wanted body base ++ parent_faults contradicted ++ row) none in
+    (neither (id_faults body base ++ word_faults wanted body base ++ parent_faults contradicted) row all).1
 
 by_kind : (wanted : Kind) (body : Data) (base : BaseValue) (links : Links) → IsValidBase wanted base → row_faults body base links (row_over wanted body base links) ≡ [] → IsValidRow (row_over wanted body base links)
 unfolding row_over
@@ -43,6 +43,6 @@ by_kind kind.Acl body base links ok none = acl_ok body base links ok none
 by_kind kind.Plugin body base links ok none = plugin_ok body base links ok none
 
 -- what breaks no rule over a valid base makes a valid row
-pub finished_ok : (wanted : Kind) (body : Data) (base : BaseValue) (links : Links) (strange : Option ParentField)
-    → IsValidBase wanted base → faults_between wanted body base links strange ≡ [] → IsValidRow (row_over wanted body base links)
-finished_ok wanted body base links strange ok none = by_kind wanted body base links ok (row_told wanted body base links strange none)
+pub finished_ok : (wanted : Kind) (body : Data) (base : BaseValue) (links : Links) (contradicted : Option ParentField)
+    → IsValidBase wanted base → faults_between wanted body base links contradicted ≡ [] → IsValidRow (row_over wanted body base links)
+finished_ok wanted body base links contradicted ok none = by_kind wanted body base links ok (row_told wanted body base links contradicted none)

@@ -9,7 +9,7 @@ use Rattle.kg_row_types.specs.declared.plugin.PluginRow.{PluginRow}
 use Rattle.kg_schema.proofs.ValidConfigs.{IsConfigBefore, config_ok, default_before, valid_before}
 use Rattle.kg_schema.proofs.ValidParts.{neither, not_broken}
 use Rattle.kg_row_making.specs.Bases.{BaseValue, New, Again, Word, Old, stamps_of}
-use Rattle.kg_schema.specs.Between.{config_faults, fault_if, known_plugin_faults, old_plugin, plugin_faults, waiting_faults}
+use Rattle.kg_schema.specs.Between.{config_faults, fault_if, known_plugin_faults, old_plugin, plugin_faults, unnamed_config_faults}
 use Rattle.kg_field_tables.specs.BrokenRules.{named_plugin}
 use Rattle.kg_schema.specs.Finished.{plugin_before, plugin_over}
 use Rattle.kg_field_rules.specs.Rules.{Fault}
@@ -40,7 +40,7 @@ free false false ok = refl
 over_ok : (body : Data) (base : BaseValue) (links : Links) (before : PluginRow) → IsConfigBefore before.config → plugin_faults body base (plugin_over body links before) ≡ [] → IsValidPlugin (plugin_over body links before)
 over_ok body base links before old none =
     let after = plugin_over body links before in
-    let waited = neither (waiting_faults body base) (if is_none (named_plugin body) && is_none (old_plugin base) then (codes "name", Required) ∷ [] else known_plugin_faults after) none in
+    let waited = neither (unnamed_config_faults body base) (if is_none (named_plugin body) && is_none (old_plugin base) then (codes "name", Required) ∷ [] else known_plugin_faults after) none in
     let all = known (is_none (named_plugin body) && is_none (old_plugin base)) (known_plugin_faults after) waited.1 in
     let told = neither (fault_if (is_for_no_consumer after.config && is_some after.scope.consumer) (codes "consumer") Fixed) (config_faults after.config) all in
     record {

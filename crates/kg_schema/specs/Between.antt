@@ -1,6 +1,6 @@
 -- The rules between the fields of a body, its base and the rows that it names (Kong Admin API, the
 -- entities' pages and the page of each plugin; the words are this project's own).
-use Rattle.std.specs.Prelude.{ℕ, ◌==◌, Bool, true, false, not, ◌&&◌, ◌||◌, nat_le, List, [], ◌∷◌, ◌++◌, length, Option, Some, None, is_some, is_none, option_and_then, codes, if◌then◌else◌}
+use Rattle.std.specs.Prelude.{ℕ, ◌==◌, Bool, true, false, not, ◌&&◌, ◌||◌, nat_le, List, [], ◌∷◌, ◌++◌, length, Option, Some, None, is_some, is_none, option_map, codes, if◌then◌else◌}
 use Rattle.std.specs.Option.{option_map_or}
 use Rattle.std.specs.Str.{bytes_eq}
 use Rattle.serde_json.specs.Data.{Data}
@@ -84,8 +84,8 @@ parent_text parent.Route = codes "route"
 parent_text parent.Consumer = codes "consumer"
 
 -- the body names another parent than the one under which the row stands
-abbrev pub strange_faults : Option ParentField → List Fault
-strange_faults strange = option_map_or (λ field. (parent_text field, Fixed) ∷ []) strange []
+abbrev pub parent_faults : Option ParentField → List Fault
+parent_faults contradicted = option_map_or (λ field. (parent_text field, Fixed) ∷ []) contradicted []
 
 -- ---- the finished row, by its kind
 
@@ -121,20 +121,26 @@ abbrev pub consumer_faults : Consumer → List Fault
 consumer_faults consumer =
     fault_if (is_none consumer.username && is_none consumer.custom_id) (codes "username") Required
 
+-- the consumer of a credential or of a membership is required, and never another than the old one
+abbrev pub owner_faults : Links → Option ℕ → List Fault
+owner_faults links old =
+    fault_if (is_missing links.consumer old) (codes "consumer") Required
+    ++ fault_if (differ same_number links.consumer old) (codes "consumer") Fixed
+
 abbrev pub key_faults : BaseValue → Links → KeyCred → List Fault
 key_faults base links credential =
-    fault_if (is_missing links.consumer (old_as key_of base)) (codes "consumer") Required
+    owner_faults links (option_map (λ old. old.consumer) (old_as key_of base))
     ++ fault_if (length credential.key == 0) (codes "key") Required
 
 abbrev pub basic_faults : BaseValue → Links → BasicCred → List Fault
 basic_faults base links credential =
-    fault_if (is_missing links.consumer (old_as basic_of base)) (codes "consumer") Required
+    owner_faults links (option_map (λ old. old.consumer) (old_as basic_of base))
     ++ fault_if (length credential.username == 0) (codes "username") Required
     ++ fault_if (length credential.hash == 0) (codes "password") Required
 
 abbrev pub acl_faults : BaseValue → Links → AclRow → List Fault
 acl_faults base links membership =
-    fault_if (is_missing links.consumer (old_as acl_of base)) (codes "consumer") Required
+    owner_faults links (option_map (λ old. old.consumer) (old_as acl_of base))
     ++ fault_if (length membership.group == 0) (codes "group") Required
 
 -- ---- plugins
@@ -172,20 +178,21 @@ config_faults _ = []
 
 -- the plugin of the old row
 abbrev pub old_plugin : BaseValue → Option PluginName
-old_plugin base = option_and_then (λ old. Some (plugin_of old.config)) (old_as plugin_row_of base)
+old_plugin base = option_map (λ old. plugin_of old.config) (old_as plugin_row_of base)
 
--- the faults of the fields of a config that had to wait for the old row's name
-abbrev pub late_faults : Data → PluginName → List Fault
-late_faults config name =
+-- the faults of the fields of a plugin's config
+abbrev pub config_field_faults : Data → PluginName → List Fault
+config_field_faults config name =
     option_map_or (λ members. faults_in members (table.Config name) (codes "config.")) (as_object config) []
 
-abbrev pub waiting_faults : Data → BaseValue → List Fault
-waiting_faults body base =
+-- where the old row alone tells the plugin, the fields of its config are judged by that name
+abbrev pub unnamed_config_faults : Data → BaseValue → List Fault
+unnamed_config_faults body base =
     if is_none (named_plugin body)
-    then option_map_or (late_faults (inside (codes "config") body)) (old_plugin base) []
+    then option_map_or (config_field_faults (inside (codes "config") body)) (old_plugin base) []
     else []
 
--- a plugin that is known: it runs with its config, and perhaps for no consumer
+-- the rules between the fields of a plugin whose name is known
 abbrev pub known_plugin_faults : PluginRow → List Fault
 known_plugin_faults plugin =
     fault_if (is_for_no_consumer plugin.config && is_some plugin.scope.consumer) (codes "consumer") Fixed
@@ -193,7 +200,7 @@ known_plugin_faults plugin =
 
 abbrev pub plugin_faults : Data → BaseValue → PluginRow → List Fault
 plugin_faults body base plugin =
-    waiting_faults body base
+    unnamed_config_faults body base
     ++ (if is_none (named_plugin body) && is_none (old_plugin base)
     then (codes "name", Required) ∷ []
     else known_plugin_faults plugin)
@@ -214,13 +221,13 @@ abbrev pub is_renamed : Kind → Data → BaseValue → Bool
 is_renamed kind.Plugin body base = differ same_plugin (named_plugin body) (old_plugin base)
 is_renamed _ body base = false
 
--- the rules between fields that a body breaks over a base, with the rows that it names; `strange` is the
+-- the rules between fields that a body breaks over a base, with the rows that it names; `contradicted` is the
 -- field of its parent, where the body names another one. Of a body that renames a plugin only that is told.
 unfoldable pub faults_between : Kind → Data → BaseValue → Links → Option ParentField → List Fault
-faults_between kind body base links strange =
+faults_between kind body base links contradicted =
     if is_renamed kind body base
     then (codes "name", Fixed) ∷ []
     else id_faults body base
     ++ word_faults kind body base
-    ++ strange_faults strange
+    ++ parent_faults contradicted
     ++ row_faults body base links (row_over kind body base links)

@@ -218,12 +218,26 @@ plugin_over body links before = record before {
 
 -- ---- any kind
 
+-- the row of a kind as it stands before the body sets anything
+abbrev pub row_before : Kind → Data → BaseValue → Entity
+row_before kind.Service body base = row.Service (service_before base (stamps_of base body))
+row_before kind.Route body base = row.Route (route_before base (stamps_of base body))
+row_before kind.Consumer body base = row.Consumer (consumer_before base (stamps_of base body))
+row_before kind.KeyCred body base = row.KeyCred (key_before base (stamps_of base body))
+row_before kind.BasicCred body base = row.BasicCred (basic_before base (stamps_of base body))
+row_before kind.Acl body base = row.Acl (acl_before base (stamps_of base body))
+row_before kind.Plugin body base = row.Plugin (plugin_before base (stamps_of base body) body)
+
+-- the row with what the body sets, and with the rows that it names
+abbrev pub with_set : Data → Links → Entity → Entity
+with_set body links (row.Service before) = row.Service (service_over body before)
+with_set body links (row.Route before) = row.Route (route_over body links before)
+with_set body links (row.Consumer before) = row.Consumer (consumer_over body before)
+with_set body links (row.KeyCred before) = row.KeyCred (key_over body links before)
+with_set body links (row.BasicCred before) = row.BasicCred (basic_over body links before)
+with_set body links (row.Acl before) = row.Acl (acl_over body links before)
+with_set body links (row.Plugin before) = row.Plugin (plugin_over body links before)
+
 -- the row of this kind that a body makes over a base, with the rows that it names
 unfoldable pub row_over : Kind → Data → BaseValue → Links → Entity
-row_over kind.Service body base links = row.Service (service_over body (service_before base (stamps_of base body)))
-row_over kind.Route body base links = row.Route (route_over body links (route_before base (stamps_of base body)))
-row_over kind.Consumer body base links = row.Consumer (consumer_over body (consumer_before base (stamps_of base body)))
-row_over kind.KeyCred body base links = row.KeyCred (key_over body links (key_before base (stamps_of base body)))
-row_over kind.BasicCred body base links = row.BasicCred (basic_over body links (basic_before base (stamps_of base body)))
-row_over kind.Acl body base links = row.Acl (acl_over body links (acl_before base (stamps_of base body)))
-row_over kind.Plugin body base links = row.Plugin (plugin_over body links (plugin_before base (stamps_of base body) body))
+row_over kind body base links = with_set body links (row_before kind body base)

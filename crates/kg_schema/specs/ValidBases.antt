@@ -18,5 +18,5 @@ IsValidBase kind (Old old now) = IsValidRow old
 
 -- a body that breaks no rule between fields over such a base makes a valid row
 abbrev pub MakesValidRows : Type 0
-MakesValidRows = (kind : Kind) (body : Data) (base : BaseValue) (links : Links) (strange : Option ParentField)
-    → IsValidBase kind base → faults_between kind body base links strange ≡ [] → IsValidRow (row_over kind body base links)
+MakesValidRows = (kind : Kind) (body : Data) (base : BaseValue) (links : Links) (contradicted : Option ParentField)
+    → IsValidBase kind base → faults_between kind body base links contradicted ≡ [] → IsValidRow (row_over kind body base links)

@@ -5,8 +5,8 @@ ghost use Rattle.std.specs.Prelude.{◌≡◌, [], IfOk, IfErr, OnOk, fold, opti
 ghost use Rattle.std.specs.Str.{bytes_eq};
 ghost use Rattle.serde_json.specs.View.{view};
 ghost use Rattle.kg_row_making.specs.Bases.{base_of, given_word};
-ghost use Rattle.kg_schema.specs.Between.{accepts_word, differ, faults_between, id_faults, is_renamed, parent_text, row_faults, strange_faults, word_faults, word_field};
-ghost use Rattle.kg_schema.specs.Finished.{row_over};
+ghost use Rattle.kg_schema.specs.Between.{accepts_word, differ, faults_between, id_faults, is_renamed, parent_text, row_faults, parent_faults, word_faults, word_field};
+ghost use Rattle.kg_schema.specs.Finished.{row_before, row_over, with_set};
 ghost use Rattle.kg_field_rules.specs.Rules.{tell};
 ghost use Rattle.kg_bodies.specs.Violations.{Tells};
 ghost use Rattle.kg_bodies.specs.Settings.{text_at};
@@ -22,12 +22,12 @@ mod tell;
 mod valid;
 
 use crate::row::consumer::{
-    acl_before, acl_over, basic_before, basic_over, consumer_before, consumer_over, key_before,
-    key_over, tell_acl, tell_basic, tell_consumer, tell_key,
+    acl_before, basic_before, consumer_before, key_before, set_acl, set_basic, set_consumer,
+    set_key, tell_acl, tell_basic, tell_consumer, tell_key,
 };
-use crate::row::plugin::{old_plugin, plugin_before, plugin_over, tell_plugin};
-use crate::row::route::{route_before, route_over, tell_route};
-use crate::row::service::{service_before, service_over, tell_service};
+use crate::row::plugin::{old_plugin, plugin_before, set_plugin, tell_plugin};
+use crate::row::route::{route_before, set_route, tell_route};
+use crate::row::service::{service_before, set_service, tell_service};
 use crate::row::tell::tell_if;
 pub use crate::row::valid::finished_rows_are_valid;
 use kg_bodies::fields::named_plugin;
@@ -80,27 +80,48 @@ pub fn finish(
     }
 }
 
-/// As [`finish`], for a row that stands under a parent: `strange` is the field of its parent, where
+/// As [`finish`], for a row that stands under a parent: `contradicted` is the field of its parent, where
 /// the body names another one there, which breaks `fixed`.
 pub fn finish_under(
     alloc: Global,
     form: &Form,
     base: &Base<'_>,
     links: &Links,
-    strange: Option<ParentField>,
+    contradicted: Option<ParentField>,
 ) -> Result<Entity, FormError>
     ensures row { IfOk result (λ row. row ≡ row_over form.now.kind (view form.now.body) (base_of base.now) links.now) }
-    ensures valid { OnOk result (faults_between form.now.kind (view form.now.body) (base_of base.now) links.now strange ≡ []) }
-    ensures violation { IfErr result (λ e. Tells e (faults_between form.now.kind (view form.now.body) (base_of base.now) links.now strange)) }
+    ensures valid { OnOk result (faults_between form.now.kind (view form.now.body) (base_of base.now) links.now contradicted ≡ []) }
+    ensures violation { IfErr result (λ e. Tells e (faults_between form.now.kind (view form.now.body) (base_of base.now) links.now contradicted)) }
     ensures valid_row { IsValidBase form.now.kind (base_of base.now) → IfOk result IsValidRow }
 {
-    match row_over(alloc, form.kind(), form.body(), base, links) {
-        Ok(row) => match judge_row(alloc, form, base, links, strange, &row) {
-            Ok(()) => Ok(row),
-            Err(error) => Err(error),
-        },
-        Err(_) => Err(FormError::NoMemory),
+    let mut row = row_before(alloc, form.kind(), form.body(), base)?;
+    match finish_row(alloc, form, base, links, contradicted, &mut row) {
+        Ok(()) => Ok(row),
+        Err(error) => {
+            drop(row);
+            Err(error)
+        }
     }
+}
+
+// Sets in the row that stands before what the body sets, and judges it.
+#[tactic(auto, unfolding(crate::specs::Finished::row_over))]
+fn finish_row(
+    alloc: Global,
+    form: &Form,
+    base: &Base<'_>,
+    links: &Links,
+    contradicted: Option<ParentField>,
+    row: &mut Entity,
+) -> Result<(), FormError>
+    requires { row.old ≡ row_before form.now.kind (view form.now.body) (base_of base.now) }
+    ensures row { OnOk result (row.new ≡ row_over form.now.kind (view form.now.body) (base_of base.now) links.now) }
+    ensures valid { OnOk result (faults_between form.now.kind (view form.now.body) (base_of base.now) links.now contradicted ≡ []) }
+    ensures violation { IfErr result (λ e. Tells e (faults_between form.now.kind (view form.now.body) (base_of base.now) links.now contradicted)) }
+    ensures valid_row { IsValidBase form.now.kind (base_of base.now) → OnOk result (IsValidRow row.new) }
+{
+    set_row(alloc, form.body(), links, row)?;
+    judge_row(alloc, form, base, links, contradicted, row)
 }
 
 // The rules between the fields that the finished row breaks.
@@ -110,62 +131,49 @@ fn judge_row(
     form: &Form,
     base: &Base<'_>,
     links: &Links,
-    strange: Option<ParentField>,
+    contradicted: Option<ParentField>,
     row: &Entity,
 ) -> Result<(), FormError>
     requires { row.now ≡ row_over form.now.kind (view form.now.body) (base_of base.now) links.now }
-    ensures valid { OnOk result (faults_between form.now.kind (view form.now.body) (base_of base.now) links.now strange ≡ []) }
-    ensures violation { IfErr result (λ e. Tells e (faults_between form.now.kind (view form.now.body) (base_of base.now) links.now strange)) }
+    ensures valid { OnOk result (faults_between form.now.kind (view form.now.body) (base_of base.now) links.now contradicted ≡ []) }
+    ensures violation { IfErr result (λ e. Tells e (faults_between form.now.kind (view form.now.body) (base_of base.now) links.now contradicted)) }
     ensures valid_row { IsValidBase form.now.kind (base_of base.now) → OnOk result (IsValidRow row.now) }
 {
     finished_rows_are_valid();
-    let faults = faults_between(alloc, form, base, links, strange, row)?;
+    let faults = faults_between(alloc, form, base, links, contradicted, row)?;
     if faults.is_empty() {
         return Ok(());
     }
     Err(FormError::Violation(faults.into_list(alloc)?))
 }
 
-#[tactic(auto, unfolding(crate::specs::Finished::row_over))]
-fn row_over(
-    alloc: Global,
-    kind: Kind,
-    body: &Value,
-    base: &Base<'_>,
-    links: &Links,
-) -> Result<Entity, NoMemory>
-    ensures { IfOk result (λ row. row ≡ row_over kind (view body.now) (base_of base.now) links.now) }
+// The row as it stands before the body sets anything.
+fn row_before(alloc: Global, kind: Kind, body: &Value, base: &Base<'_>) -> Result<Entity, NoMemory>
+    ensures { IfOk result (λ row. row ≡ row_before kind (view body.now) (base_of base.now)) }
 {
     let stamps = base.stamps(body);
     match kind {
-        Kind::Service => {
-            let before = service_before(alloc, base, stamps)?;
-            Ok(Entity::Service(service_over(alloc, body, before)?))
-        }
-        Kind::Route => {
-            let before = route_before(alloc, base, stamps)?;
-            Ok(Entity::Route(route_over(alloc, body, links, before)?))
-        }
-        Kind::Consumer => {
-            let before = consumer_before(alloc, base, stamps)?;
-            Ok(Entity::Consumer(consumer_over(alloc, body, before)?))
-        }
-        Kind::KeyCred => {
-            let before = key_before(alloc, base, stamps)?;
-            Ok(Entity::KeyCred(key_over(alloc, body, links, before)?))
-        }
-        Kind::BasicCred => {
-            let before = basic_before(alloc, base, stamps)?;
-            Ok(Entity::BasicCred(basic_over(alloc, body, links, before)?))
-        }
-        Kind::Acl => {
-            let before = acl_before(alloc, base, stamps)?;
-            Ok(Entity::Acl(acl_over(alloc, body, links, before)?))
-        }
-        Kind::Plugin => {
-            let before = plugin_before(alloc, base, stamps, body)?;
-            Ok(Entity::Plugin(plugin_over(alloc, body, links, before)?))
-        }
+        Kind::Service => Ok(Entity::Service(service_before(alloc, base, stamps)?)),
+        Kind::Route => Ok(Entity::Route(route_before(alloc, base, stamps)?)),
+        Kind::Consumer => Ok(Entity::Consumer(consumer_before(alloc, base, stamps)?)),
+        Kind::KeyCred => Ok(Entity::KeyCred(key_before(alloc, base, stamps)?)),
+        Kind::BasicCred => Ok(Entity::BasicCred(basic_before(alloc, base, stamps)?)),
+        Kind::Acl => Ok(Entity::Acl(acl_before(alloc, base, stamps)?)),
+        Kind::Plugin => Ok(Entity::Plugin(plugin_before(alloc, base, stamps, body)?)),
+    }
+}
+
+fn set_row(alloc: Global, body: &Value, links: &Links, row: &mut Entity) -> Result<(), NoMemory>
+    ensures { OnOk result (row.new ≡ with_set (view body.now) links.now row.old) }
+{
+    match row {
+        Entity::Service(row) => set_service(alloc, body, row),
+        Entity::Route(row) => set_route(alloc, body, links, row),
+        Entity::Consumer(row) => set_consumer(alloc, body, row),
+        Entity::KeyCred(row) => set_key(alloc, body, links, row),
+        Entity::BasicCred(row) => set_basic(alloc, body, links, row),
+        Entity::Acl(row) => set_acl(alloc, body, links, row),
+        Entity::Plugin(row) => set_plugin(alloc, body, links, row),
     }
 }
 
@@ -175,11 +183,11 @@ fn faults_between(
     form: &Form,
     base: &Base<'_>,
     links: &Links,
-    strange: Option<ParentField>,
+    contradicted: Option<ParentField>,
     row: &Entity,
 ) -> Result<Faults, NoMemory>
     requires { row.now ≡ row_over form.now.kind (view form.now.body) (base_of base.now) links.now }
-    ensures { IfOk result (λ faults. faults ≡ fold tell [] (faults_between form.now.kind (view form.now.body) (base_of base.now) links.now strange)) }
+    ensures { IfOk result (λ faults. faults ≡ fold tell [] (faults_between form.now.kind (view form.now.body) (base_of base.now) links.now contradicted)) }
 {
     let mut faults = Faults::new(alloc);
     if is_renamed(form.kind(), form.body(), base) {
@@ -187,7 +195,7 @@ fn faults_between(
     } else {
         tell_id(alloc, &mut faults, form.body(), base)?;
         tell_word(alloc, &mut faults, form.kind(), form.body(), base)?;
-        tell_strange(alloc, &mut faults, strange)?;
+        tell_parent(alloc, &mut faults, contradicted)?;
         tell_row(alloc, &mut faults, form.body(), base, links, row)?;
     }
     Ok(faults)
@@ -296,14 +304,14 @@ fn word_field(kind: Kind) -> Option<(&'static str, Word)>
     }
 }
 
-fn tell_strange(
+fn tell_parent(
     alloc: Global,
     faults: &mut Faults,
-    strange: Option<ParentField>,
+    contradicted: Option<ParentField>,
 ) -> Result<(), NoMemory>
-    ensures { OnOk result (faults.new ≡ fold tell faults.old (strange_faults strange)) }
+    ensures { OnOk result (faults.new ≡ fold tell faults.old (parent_faults contradicted)) }
 {
-    match strange {
+    match contradicted {
         Some(field) => tell_if(alloc, faults, true, parent_text(field), Rule::Fixed),
         None => Ok(()),
     }

@@ -1,14 +1,14 @@
 //! The consumers that bodies make, and their credentials.
 
-ghost use Rattle.std.specs.Prelude.{◌≡◌, IfOk, OnOk, fold};
+ghost use Rattle.std.specs.Prelude.{◌≡◌, IfOk, OnOk, fold, option_map};
 ghost use Rattle.serde_json.specs.View.{view};
 ghost use Rattle.kg_row_types.specs.StoredPassword.{stored_password};
-ghost use Rattle.kg_row_making.specs.Bases.{base_of};
-ghost use Rattle.kg_schema.specs.Between.{acl_faults, basic_faults, consumer_faults, key_faults};
+ghost use Rattle.kg_row_making.specs.Bases.{acl_of, base_of, basic_of, key_of, old_as};
+ghost use Rattle.kg_schema.specs.Between.{acl_faults, basic_faults, consumer_faults, differ, key_faults, owner_faults, same_number};
 ghost use Rattle.kg_schema.specs.Finished.{acl_before, acl_over, basic_before, basic_over, consumer_before, consumer_over, key_before, key_over};
 ghost use Rattle.kg_field_rules.specs.Rules.{tell};
 
-use crate::row::tell::{is_missing, tell_if};
+use crate::row::tell::tell_if;
 use kg_bodies::settings::text_at;
 use kg_field_rules::fault::Faults;
 use kg_field_rules::rule::Rule;
@@ -17,6 +17,7 @@ use kg_row_making::base::{Base, Links, Stamps};
 use kg_row_making::password::stored_password;
 use kg_row_making::set::{set, set_option};
 use kg_row_types::consumer::{AclRow, BasicCred, Consumer, KeyCred};
+use kg_row_types::id::Id;
 use kg_text::{NoMemory, Text, TryClone};
 use serde_json::Value;
 use std::alloc::Global;
@@ -41,11 +42,10 @@ pub fn consumer_before(alloc: Global, base: &Base<'_>, stamps: Stamps) -> Result
     }
 }
 
-/// The consumer with what the body sets.
-pub fn consumer_over(alloc: Global, body: &Value, before: Consumer) -> Result<Consumer, NoMemory>
-    ensures { IfOk result (λ row. row ≡ consumer_over (view body.now) before) }
+/// Sets in a consumer what the body sets.
+pub fn set_consumer(alloc: Global, body: &Value, row: &mut Consumer) -> Result<(), NoMemory>
+    ensures { OnOk result (row.new ≡ consumer_over (view body.now) row.old) }
 {
-    let mut row = before;
     set_option(
         &mut row.username,
         text_at(alloc, Word::Username, "username", body)?,
@@ -54,7 +54,7 @@ pub fn consumer_over(alloc: Global, body: &Value, before: Consumer) -> Result<Co
         &mut row.custom_id,
         text_at(alloc, Word::FreeText, "custom_id", body)?,
     );
-    Ok(row)
+    Ok(())
 }
 
 /// Tells the rules between the fields of a consumer.
@@ -67,6 +67,62 @@ pub fn tell_consumer(
 {
     let unknown = consumer.username.is_none() && consumer.custom_id.is_none();
     tell_if(alloc, faults, unknown, "username", Rule::Required)
+}
+
+// Tells that no consumer is named, or another than the old row has.
+fn tell_owner(
+    alloc: Global,
+    faults: &mut Faults,
+    links: &Links,
+    old: Option<Id>,
+) -> Result<(), NoMemory>
+    ensures { OnOk result (faults.new ≡ fold tell faults.old (owner_faults links.now old)) }
+{
+    let missing = links.consumer.is_none() && old.is_none();
+    tell_if(alloc, faults, missing, "consumer", Rule::Required)?;
+    tell_if(
+        alloc,
+        faults,
+        is_other(links.consumer, old),
+        "consumer",
+        Rule::Fixed,
+    )
+}
+
+fn is_other(link: Option<Id>, old: Option<Id>) -> bool
+    ensures { result ≡ differ same_number link old }
+{
+    match (link, old) {
+        (Some(link), Some(old)) => link != old,
+        _ => false,
+    }
+}
+
+fn key_owner(base: &Base<'_>) -> Option<Id>
+    ensures { result ≡ option_map (λ old. old.consumer) (old_as key_of (base_of base.now)) }
+{
+    match base.key() {
+        Some(old) => Some(old.consumer),
+        None => None,
+    }
+}
+
+fn basic_owner(base: &Base<'_>) -> Option<Id>
+    ensures { result ≡ option_map (λ old. old.consumer) (old_as basic_of (base_of base.now)) }
+{
+    match base.basic() {
+        Some(old) => Some(old.consumer),
+        None => None,
+    }
+}
+
+fn acl_owner(base: &Base<'_>) -> Option<Id>
+    ensures { result ≡ option_map (λ old. old.consumer) (old_as acl_of (base_of base.now)) }
+{
+    match base.acl() {
+        Some(old) => Some(old.consumer),
+        None => None,
+    }
 }
 
 /// The old credential, or a new one.
@@ -84,19 +140,18 @@ pub fn key_before(alloc: Global, base: &Base<'_>, stamps: Stamps) -> Result<KeyC
     }
 }
 
-/// The credential with what the body sets, and with the consumer that it names.
-pub fn key_over(
+/// Sets in a credential what the body sets, and the consumer that it names.
+pub fn set_key(
     alloc: Global,
     body: &Value,
     links: &Links,
-    before: KeyCred,
-) -> Result<KeyCred, NoMemory>
-    ensures { IfOk result (λ row. row ≡ key_over (view body.now) links.now before) }
+    row: &mut KeyCred,
+) -> Result<(), NoMemory>
+    ensures { OnOk result (row.new ≡ key_over (view body.now) links.now row.old) }
 {
-    let mut row = before;
     set(&mut row.consumer, links.consumer);
     set(&mut row.key, text_at(alloc, Word::FreeText, "key", body)?);
-    Ok(row)
+    Ok(())
 }
 
 /// Tells the rules between the fields of a credential with a key.
@@ -109,8 +164,7 @@ pub fn tell_key(
 ) -> Result<(), NoMemory>
     ensures { OnOk result (faults.new ≡ fold tell faults.old (key_faults (base_of base.now) links.now credential.now)) }
 {
-    let missing = is_missing(links.consumer, base.key());
-    tell_if(alloc, faults, missing, "consumer", Rule::Required)?;
+    tell_owner(alloc, faults, links, key_owner(base))?;
     tell_if(
         alloc,
         faults,
@@ -136,17 +190,16 @@ pub fn basic_before(alloc: Global, base: &Base<'_>, stamps: Stamps) -> Result<Ba
     }
 }
 
-/// The credential with what the body sets, and with the consumer that it names. Of a password only
-/// the hash is kept.
-pub fn basic_over(
+/// Sets in a credential what the body sets, and the consumer that it names. Of a password only the hash
+/// is kept.
+pub fn set_basic(
     alloc: Global,
     body: &Value,
     links: &Links,
-    before: BasicCred,
-) -> Result<BasicCred, NoMemory>
-    ensures { IfOk result (λ row. row ≡ basic_over (view body.now) links.now before) }
+    row: &mut BasicCred,
+) -> Result<(), NoMemory>
+    ensures { OnOk result (row.new ≡ basic_over (view body.now) links.now row.old) }
 {
-    let mut row = before;
     set(&mut row.consumer, links.consumer);
     set(
         &mut row.username,
@@ -156,7 +209,7 @@ pub fn basic_over(
         Some(password) => row.hash = stored_password(alloc, row.consumer, &password)?,
         None => {}
     }
-    Ok(row)
+    Ok(())
 }
 
 /// Tells the rules between the fields of a credential with a password.
@@ -169,8 +222,7 @@ pub fn tell_basic(
 ) -> Result<(), NoMemory>
     ensures { OnOk result (faults.new ≡ fold tell faults.old (basic_faults (base_of base.now) links.now credential.now)) }
 {
-    let missing = is_missing(links.consumer, base.basic());
-    tell_if(alloc, faults, missing, "consumer", Rule::Required)?;
+    tell_owner(alloc, faults, links, basic_owner(base))?;
     tell_if(
         alloc,
         faults,
@@ -202,22 +254,16 @@ pub fn acl_before(alloc: Global, base: &Base<'_>, stamps: Stamps) -> Result<AclR
     }
 }
 
-/// The membership with what the body sets, and with the consumer that it names.
-pub fn acl_over(
-    alloc: Global,
-    body: &Value,
-    links: &Links,
-    before: AclRow,
-) -> Result<AclRow, NoMemory>
-    ensures { IfOk result (λ row. row ≡ acl_over (view body.now) links.now before) }
+/// Sets in a membership what the body sets, and the consumer that it names.
+pub fn set_acl(alloc: Global, body: &Value, links: &Links, row: &mut AclRow) -> Result<(), NoMemory>
+    ensures { OnOk result (row.new ≡ acl_over (view body.now) links.now row.old) }
 {
-    let mut row = before;
     set(&mut row.consumer, links.consumer);
     set(
         &mut row.group,
         text_at(alloc, Word::FreeText, "group", body)?,
     );
-    Ok(row)
+    Ok(())
 }
 
 /// Tells the rules between the fields of a membership.
@@ -230,8 +276,7 @@ pub fn tell_acl(
 ) -> Result<(), NoMemory>
     ensures { OnOk result (faults.new ≡ fold tell faults.old (acl_faults (base_of base.now) links.now membership.now)) }
 {
-    let missing = is_missing(links.consumer, base.acl());
-    tell_if(alloc, faults, missing, "consumer", Rule::Required)?;
+    tell_owner(alloc, faults, links, acl_owner(base))?;
     tell_if(
         alloc,
         faults,

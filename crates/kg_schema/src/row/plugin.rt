@@ -4,7 +4,7 @@ ghost use Rattle.std.specs.Prelude.{◌≡◌, IfOk, OnOk, codes, fold};
 ghost use Rattle.serde_json.specs.View.{view};
 ghost use Rattle.kg_row_types.specs.ValidRows.{is_for_no_consumer};
 ghost use Rattle.kg_row_making.specs.Bases.{base_of};
-ghost use Rattle.kg_schema.specs.Between.{config_faults, groups_faults, has_both, has_neither, ip_restriction_faults, known_plugin_faults, late_faults, old_plugin, plugin_faults, rate_limiting_faults, termination_faults, waiting_faults};
+ghost use Rattle.kg_schema.specs.Between.{config_faults, groups_faults, has_both, has_neither, ip_restriction_faults, known_plugin_faults, config_field_faults, old_plugin, plugin_faults, rate_limiting_faults, termination_faults, unnamed_config_faults};
 ghost use Rattle.kg_schema.specs.Finished.{plugin_before, plugin_over, scope_over};
 ghost use Rattle.kg_field_rules.specs.Rules.{tell};
 ghost use Rattle.kg_bodies.specs.Settings.{inside};
@@ -16,10 +16,10 @@ use kg_field_rules::fault::Faults;
 use kg_field_rules::rule::Rule;
 use kg_field_tables::table::Table;
 use kg_row_making::base::{Base, Links, Stamps};
-use kg_row_making::config::config_over;
+use kg_row_making::config::set_config;
 use kg_row_making::defaults::default_config;
 use kg_row_making::member::member_or;
-use kg_row_making::set::{set, set_option};
+use kg_row_making::set::set;
 use kg_row_types::config::{Acl, Config, IpRestriction, RateLimiting, Termination};
 use kg_row_types::plugin::{PluginName, PluginRow, Scope};
 use kg_text::{List, NoMemory, Text, TryClone};
@@ -51,31 +51,19 @@ pub fn plugin_before(
     }
 }
 
-/// The plugin with what the body sets, and with the rows that it names.
-pub fn plugin_over(
+/// Sets in a plugin what the body sets, and the rows that it names.
+pub fn set_plugin(
     alloc: Global,
     body: &Value,
     links: &Links,
-    before: PluginRow,
-) -> Result<PluginRow, NoMemory>
-    ensures { IfOk result (λ row. row ≡ plugin_over (view body.now) links.now before) }
+    row: &mut PluginRow,
+) -> Result<(), NoMemory>
+    ensures { OnOk result (row.new ≡ plugin_over (view body.now) links.now row.old) }
 {
     let null = Value::Null;
-    let PluginRow {
-        id,
-        scope,
-        mut enabled,
-        config,
-        created_at,
-    } = before;
-    set(&mut enabled, flag_at("enabled", body));
-    Ok(PluginRow {
-        id,
-        scope: scope_over(links, scope),
-        enabled,
-        config: config_over(alloc, member_or("config", body, &null), config)?,
-        created_at,
-    })
+    row.scope = scope_over(links, row.scope);
+    set(&mut row.enabled, flag_at("enabled", body));
+    set_config(alloc, member_or("config", body, &null), &mut row.config)
 }
 
 fn scope_over(links: &Links, before: Scope) -> Scope
@@ -109,7 +97,7 @@ pub fn tell_plugin(
 ) -> Result<(), NoMemory>
     ensures { OnOk result (faults.new ≡ fold tell faults.old (plugin_faults (view body.now) (base_of base.now) plugin.now)) }
 {
-    tell_waiting(alloc, faults, body, base)?;
+    tell_unnamed_config(alloc, faults, body, base)?;
     if named_plugin(body).is_none() && old_plugin(base).is_none() {
         tell_if(alloc, faults, true, "name", Rule::Required)
     } else {
@@ -117,30 +105,30 @@ pub fn tell_plugin(
     }
 }
 
-fn tell_waiting(
+fn tell_unnamed_config(
     alloc: Global,
     faults: &mut Faults,
     body: &Value,
     base: &Base<'_>,
 ) -> Result<(), NoMemory>
-    ensures { OnOk result (faults.new ≡ fold tell faults.old (waiting_faults (view body.now) (base_of base.now))) }
+    ensures { OnOk result (faults.new ≡ fold tell faults.old (unnamed_config_faults (view body.now) (base_of base.now))) }
 {
     match named_plugin(body) {
         Some(_) => Ok(()),
         None => match old_plugin(base) {
-            Some(name) => tell_late(alloc, faults, body, name),
+            Some(name) => tell_config_fields(alloc, faults, body, name),
             None => Ok(()),
         },
     }
 }
 
-fn tell_late(
+fn tell_config_fields(
     alloc: Global,
     faults: &mut Faults,
     body: &Value,
     name: PluginName,
 ) -> Result<(), NoMemory>
-    ensures { OnOk result (faults.new ≡ fold tell faults.old (late_faults (inside (codes "config") (view body.now)) name)) }
+    ensures { OnOk result (faults.new ≡ fold tell faults.old (config_field_faults (inside (codes "config") (view body.now)) name)) }
 {
     let null = Value::Null;
     match member_or("config", body, &null).as_object() {

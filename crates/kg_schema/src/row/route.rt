@@ -48,16 +48,15 @@ pub fn route_before(alloc: Global, base: &Base<'_>, stamps: Stamps) -> Result<Ro
     }
 }
 
-/// The route with what the body sets, and with the service that it names.
-pub fn route_over(
+/// Sets in a route what the body sets, and the service that it names.
+pub fn set_route(
     alloc: Global,
     body: &Value,
     links: &Links,
-    before: Route,
-) -> Result<Route, NoMemory>
-    ensures { IfOk result (λ row. row ≡ route_over (view body.now) links.now before) }
+    row: &mut Route,
+) -> Result<(), NoMemory>
+    ensures { OnOk result (row.new ≡ route_over (view body.now) links.now row.old) }
 {
-    let mut row = before;
     set_option(&mut row.name, text_at(alloc, Word::Name, "name", body)?);
     set(&mut row.service, links.service);
     set(&mut row.https, https_at(alloc, body)?);
@@ -80,7 +79,7 @@ pub fn route_over(
     );
     set(&mut row.strip_path, flag_at("strip_path", body));
     set(&mut row.preserve_host, flag_at("preserve_host", body));
-    Ok(row)
+    Ok(())
 }
 
 /// Tells the rules between the fields of a route.

@@ -1,6 +1,6 @@
 //! The services that bodies make.
 
-ghost use Rattle.std.specs.Prelude.{◌≡◌, IfOk, OnOk, fold};
+ghost use Rattle.std.specs.Prelude.{◌≡◌, IfOk, None, OnOk, fold};
 ghost use Rattle.serde_json.specs.View.{view};
 ghost use Rattle.kg_row_making.specs.Bases.{base_of};
 ghost use Rattle.kg_schema.specs.Between.{doubles_url, service_faults};
@@ -45,41 +45,45 @@ pub fn service_before(alloc: Global, base: &Base<'_>, stamps: Stamps) -> Result<
     }
 }
 
-/// The service with what the body sets.
-pub fn service_over(alloc: Global, body: &Value, before: Service) -> Result<Service, NoMemory>
-    ensures { IfOk result (λ row. row ≡ service_over (view body.now) before) }
+/// Sets in a service what the body sets.
+pub fn set_service(alloc: Global, body: &Value, row: &mut Service) -> Result<(), NoMemory>
+    ensures { OnOk result (row.new ≡ service_over (view body.now) row.old) }
 {
-    let mut row = address_over(alloc, body, before)?;
+    set_address(alloc, body, row)?;
     set_option(&mut row.name, text_at(alloc, Word::Name, "name", body)?);
     set(
         &mut row.retries,
         narrow(whole_at(alloc, 0, 32767, "retries", body)?),
     );
     set(&mut row.enabled, flag_at("enabled", body));
-    Ok(row)
+    Ok(())
 }
 
 // A url sets the host, the port and the path.
-fn address_over(alloc: Global, body: &Value, before: Service) -> Result<Service, NoMemory>
-    ensures { IfOk result (λ row. row ≡ address_over (url_at (view body.now)) (view body.now) before) }
+fn set_address(alloc: Global, body: &Value, row: &mut Service) -> Result<(), NoMemory>
+    ensures { OnOk result (row.new ≡ address_over (url_at (view body.now)) (view body.now) row.old) }
 {
-    let mut row = before;
     match url_at(alloc, body)? {
         Some(url) => {
             row.host = url.host;
             row.port = url.port;
             row.path = url.path;
+            Ok(())
         }
-        None => {
-            set(&mut row.host, text_at(alloc, Word::Host, "host", body)?);
-            set(
-                &mut row.port,
-                narrow(whole_at(alloc, 1, 65535, "port", body)?),
-            );
-            set_option(&mut row.path, text_at(alloc, Word::Path, "path", body)?);
-        }
+        None => set_parts(alloc, body, row),
     }
-    Ok(row)
+}
+
+fn set_parts(alloc: Global, body: &Value, row: &mut Service) -> Result<(), NoMemory>
+    ensures { OnOk result (row.new ≡ address_over None (view body.now) row.old) }
+{
+    set(&mut row.host, text_at(alloc, Word::Host, "host", body)?);
+    set(
+        &mut row.port,
+        narrow(whole_at(alloc, 1, 65535, "port", body)?),
+    );
+    set_option(&mut row.path, text_at(alloc, Word::Path, "path", body)?);
+    Ok(())
 }
 
 /// Tells the rules between the fields of a service.
