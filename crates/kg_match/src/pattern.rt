@@ -10,7 +10,7 @@ use std::alloc::Global;
 use std::marker::Model;
 
 /// A compiled pattern of a regex path. Contracts see it as its text, without the `~`.
-#[derive(Debug, Drop)]
+#[derive(Drop)]
 pub struct PathPattern {
     regex: Regex,
 }
