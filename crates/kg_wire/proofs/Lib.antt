@@ -1,8 +1,11 @@
 mod ChecksLemmas
 mod HeldLemmas
 mod JudgeLemmas
+mod JudgedLemmas
 pub mod MessageLemmas
 pub mod NextLemmas
+mod OpenTargetLemmas
 mod PrintedLemmas
 mod ReaderLemmas
+pub mod RefusalLemmas
 mod ValueLemmas

@@ -1,5 +1,5 @@
 -- What a whole head says of the message that it begins.
-use Rattle.std.proofs.Common.{◌≡◌, ℕ, ◌+◌, ◌<◌, ◌≤◌, Bool, true, false, ◌&&◌, if◌then◌else◌, List, [], ◌∷◌, ◌++◌, length, map, take, drop, Option, Some, None, Ok, Err, refl, sym, ap, ◌∙◌, subst, eq-eqb, ltb, arith}
+use Rattle.std.proofs.Common.{◌≡◌, ℕ, ◌+◌, ◌<◌, ◌≤◌, Bool, true, false, ◌&&◌, if◌then◌else◌, List, [], ◌∷◌, ◌++◌, length, map, take, drop, Option, Some, None, Ok, Err, inl, inr, refl, sym, ap, ◌∙◌, subst, eq-eqb, ltb, arith}
 use Rattle.std.proofs.Math.Seq.{take-append-add, drop-append-add}
 use Rattle.std.specs.Prelude.{All, IsTrue, Result, IfErr, IsErrAnd}
 use Rattle.std.specs.List.{list_all, prefix_len}
@@ -11,7 +11,6 @@ use Rattle.httparse.specs.Grammar.{is_token_byte, IsToken, RequestHead, print_re
 use Rattle.httparse.specs.Spans.{header_bytes, name_and_value, IsRequestAt}
 use Rattle.httparse.specs.declared.spans.HeaderSpan.{HeaderSpan}
 use Rattle.httparse.specs.declared.spans.RequestSpans.{RequestSpans}
-use Rattle.httparse.proofs.GrammarLemmas.{request_prefix_free, request_unique}
 use Rattle.kg_text.specs.Names.{is_tchar, is_token}
 use Rattle.kg_outside.specs.Moves.{with_front}
 use Rattle.kg_outside.proofs.Observed.{with_front-append}
@@ -21,11 +20,11 @@ use Rattle.kg_wire.specs.declared.reader.ReadError.{ReadError}
 use Rattle.kg_wire.specs.declared.reader.ReadError.TheVariants.{Bad, HeadTooLarge, BodyTooLarge, Cut, ReadFault, NoMemory}
 use Rattle.kg_wire.specs.declared.reader.Start.{Start}
 use Rattle.kg_wire.specs.Checks.{body_len}
-use Rattle.kg_wire.specs.Messages.{most_body, Message, print_message, head_of, request_with, request_of, IsRequest, BeginsNoRequest, NeverBegins}
+use Rattle.kg_wire.specs.Messages.{most_head, most_body, Message, print_message, head_of, request_with, request_of, IsRequest}
 use Rattle.kg_wire.specs.Targets.{is_target}
-use Rattle.kg_wire.specs.Reading.{ReaderState, Grows, Takes, Ends, IsCut, IsStart, HaveTokens, head_at}
-use Rattle.kg_wire.proofs.JudgeLemmas.{head_some}
-use Rattle.kg_wire.proofs.MessageLemmas.{head_reads}
+use Rattle.kg_wire.specs.Reading.{ReaderState, Grows, Takes, Ends, Counts}
+use Rattle.kg_wire.specs.ReadingSteps.{IsStart, HaveTokens, head_at}
+use Rattle.kg_wire.specs.Refusals.{IsBad, IsCut}
 
 -- httparse's tokens are ours
 token_of : (bytes : List ℕ) → IsToken bytes → IsTrue (is_token bytes)
@@ -59,27 +58,27 @@ pub head_at-head_of : (held : List ℕ) (room : List HeaderSpan) (spans : Reques
     → IsRequestAt held room spans h → head_at held room spans ≡ head_of h
 head_at-head_of held room spans h there = rw (there.method, there.path, there.version, there.fields) refl
 
--- a head that fails a check stands at the front
-pub never_passes : (held : List ℕ) (h : RequestHead) (rest : List ℕ) → ReadsRequest held h rest
-    → body_len (head_of h) ≡ None → NeverBegins held
-never_passes held h rest reads fails more m after is whole =
-    let same = request_prefix_free held more h m.head rest (m.body ++ after) reads
-    (head_reads m (held ++ more) after is.message whole) in
-    let none : None ≡ Some (length m.body) =
-    sym fails ∙ ap (λ head. body_len (head_of head)) same.0 ∙ is.message.framed in
-    absurd (cc)
+-- a head within its limit that fails a check stands at the front
+pub bad_when_failing : (held : List ℕ) (h : RequestHead) (rest : List ℕ) → ReadsRequest held h rest
+    → length (print_request h) ≤ most_head → body_len (head_of h) ≡ None → IsBad held
+bad_when_failing held h rest reads short fails = inr (inr (record {
+  head = h;
+  after = rest;
+  reads = reads;
+  short_head = short;
+  wrong = λ len states. let other : None ≡ Some len = sym fails ∙ states in absurd (cc);
+}))
 
--- a head that states a body past its limit stands at the front
-pub never_fits : (held : List ℕ) (h : RequestHead) (rest : List ℕ) (len : ℕ) → ReadsRequest held h rest
-    → body_len (head_of h) ≡ Some len → most_body < len → NeverBegins held
-never_fits held h rest len reads states long more m after is whole =
-    let same = request_prefix_free held more h m.head rest (m.body ++ after) reads
-    (head_reads m (held ++ more) after is.message whole) in
-    let lens : Some len ≡ Some (length m.body) =
-    sym states ∙ ap (λ head. body_len (head_of head)) same.0 ∙ is.message.framed in
-    let len_is : len ≡ length m.body = cc in
-    let short = is.short_body in
-    omega arith
+-- a head within its limit that states a body past the limit stands at the front
+pub bad_when_long : (held : List ℕ) (h : RequestHead) (rest : List ℕ) (len : ℕ) → ReadsRequest held h rest
+    → length (print_request h) ≤ most_head → body_len (head_of h) ≡ Some len → most_body < len → IsBad held
+bad_when_long held h rest len reads short states long = inr (inr (record {
+  head = h;
+  after = rest;
+  reads = reads;
+  short_head = short;
+  wrong = λ other is. let same : Some len ≡ Some other = sym states ∙ is in let len_is : len ≡ other = cc in omega arith;
+}))
 
 -- a head whose body is known has a target of the grammar
 pub target_passes : (head : Head) (len : ℕ) → body_len head ≡ Some len → IsTrue (is_target head.target)
@@ -183,48 +182,36 @@ takes_later first second third left_first left_second left_third request grows a
 pub cut_in_body : (held_before held_now : List ℕ) (left_before left_now : Option (List ℕ)) (start : Start)
     → IsStart held_before start → Grows held_before held_now left_before left_now → length held_now < start.message_len
     → IsCut held_now
-cut_in_body held_before held_now left_before left_now start begins grows short = record {
-  some = head_some held_now begins.spelt _ whole;
-  part = part;
-  head = λ none. absurd (none begins.spelt (begins.rest ++ grows.piece) whole);
-  passes = λ h rest reads.
-      (begins.body, ap (λ k. body_len (head_of k)) (sym (same h rest reads)) ∙ begins.framed, begins.short_body);
-}
+cut_in_body held_before held_now left_before left_now start begins grows short = inr (record {
+  head = begins.spelt;
+  after = begins.rest ++ grows.piece;
+  reads = (begins.reads.0, whole);
+  short_head = begins.short;
+  len = begins.body;
+  states = begins.framed;
+  short_body = begins.short_body;
+  part =
+      let size = ap length whole ∙ length-append (print_request begins.spelt) (begins.rest ++ grows.piece) in
+      omega (arith, begins.head_len, begins.message_len);
+})
   where
-    whole : ReadsRequest held_now begins.spelt (begins.rest ++ grows.piece)
-    whole = (
-      begins.reads.0,
-      grows.grown ∙ ap (λ bytes. bytes ++ grows.piece) begins.reads.1
-          ∙ append_assoc (print_request begins.spelt) begins.rest grows.piece,
-    )
-
-    same : (h : RequestHead) (rest : List ℕ) → ReadsRequest held_now h rest → begins.spelt ≡ h
-    same h rest reads = (request_unique held_now begins.spelt h (begins.rest ++ grows.piece) rest whole reads).0
-
-    part : BeginsNoRequest held_now
-    part m rest is held_is =
-        let spelt = same m.head (m.body ++ rest) (head_reads m held_now rest is.message held_is) in
-        let lens : Some begins.body ≡ Some (length m.body) =
-        sym begins.framed ∙ ap (λ h. body_len (head_of h)) spelt ∙ is.message.framed in
-        let body : begins.body ≡ length m.body = cc in
-        let head = ap (λ h. length (print_request h)) spelt in
-        let len = ap length held_is ∙ length-append (print_message m) rest in
-        let message = length-append (print_request m.head) m.body in
-        omega (arith, begins.head_len, begins.message_len)
+    whole : held_now ≡ print_request begins.spelt ++ (begins.rest ++ grows.piece)
+    whole = grows.grown ∙ ap (λ bytes. bytes ++ grows.piece) begins.reads.1
+        ∙ append_assoc (print_request begins.spelt) begins.rest grows.piece
 
 -- the request of a message that is held whole was taken
 pub takes_whole : (before now : ReaderState) (held : List ℕ) (left_before left_now : Option (List ℕ)) (start : Start)
-    (m : Message) (body : List ℕ) (request : Request)
+    (m : Message) (request : Request)
     → IsWhole held start m → Grows before.held held left_before left_now
-    → body ≡ drop start.head_len (take start.message_len held)
-    → request ≡ request_with before.address start.head body
+    → request ≡ request_with before.address start.head (drop start.head_len (take start.message_len held))
     → now.at ≡ before.at + start.message_len → now.held ≡ drop start.message_len held
     → Takes before now left_before left_now request
-takes_whole before now held left_before left_now start m body request whole grows body_is request_is at_is held_is = record {
+takes_whole before now held left_before left_now start m request whole grows request_is at_is held_is = record {
   message = m;
   is = whole.is;
-  means = request_is ∙ ap (λ head. request_with before.address head body) whole.head
-      ∙ ap (request_with before.address (head_of m.head)) (body_is ∙ sym whole.body);
+  means = request_is
+      ∙ ap (λ head. request_with before.address head (drop start.head_len (take start.message_len held))) whole.head
+      ∙ ap (request_with before.address (head_of m.head)) (sym whole.body);
   at = at_is ∙ ap (λ len. before.at + len) whole.len;
   moved = grows_ahead before.held held left_before left_now grows
       ∙ ap (λ bytes. with_front bytes left_now) (whole.whole ∙ ap (λ rest. print_message m ++ rest) (sym held_is));
@@ -235,3 +222,9 @@ pub exits : {V : Type 0} (result : Result V ReadError) (e : ReadError) (P : Read
     → IsErrAnd result (λ r. r ≡ e) → P e → IfErr result P
 exits (Ok value) e P is holds = tt
 exits (Err r) e P is holds = subst P (sym is) holds
+
+-- the count of faults at an exit is that of the call that failed
+pub counts_on : {V : Type 0} (result : Result V ReadError) (e : ReadError) (before middle now : ℕ)
+    → IsErrAnd result (λ r. r ≡ e) → middle ≡ before → Counts middle now e → IfErr result (Counts before now)
+counts_on result e before middle now is same counts =
+    exits result e (Counts before now) is (subst (λ n. Counts n now e) same counts)

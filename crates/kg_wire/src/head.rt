@@ -1,11 +1,12 @@
 //! The head of a request, as its parts.
 
-ghost use Rattle.std.specs.Prelude.{◌≡◌, IsTrue, IfOk, Ok, take, map};
+ghost use Rattle.std.specs.Prelude.{◌≡◌, [], IsTrue, IfOk, Ok, unwrap_or, codes, take, map};
 ghost use Rattle.httparse.specs.Spans.{IsRequestWithin, header_bytes};
 ghost use Rattle.kg_text.specs.Paths.{normal_form};
+ghost use Rattle.kg_message.specs.HeaderLists.{first_value};
 ghost use Rattle.kg_wire.specs.Messages.{header_of, request_with};
-ghost use Rattle.kg_wire.specs.Reading.{HaveTokens, head_at};
-ghost use Rattle.kg_wire.specs.Targets.{is_target, target_path};
+ghost use Rattle.kg_wire.specs.ReadingSteps.{HaveTokens, head_at};
+ghost use Rattle.kg_wire.specs.Targets.{is_target, target_path, target_query};
 
 use crate::checks::is_framed;
 use crate::target::{path_len, target_query};
@@ -16,7 +17,7 @@ use std::alloc::Global;
 
 /// The head of a request, copied out of the bytes that were read. Nothing of it was checked yet but
 /// the grammar of a head.
-#[derive(Debug, Drop)]
+#[derive(Drop)]
 pub struct Head {
     pub method: Bytes,
     pub target: Bytes,
@@ -75,25 +76,69 @@ pub fn make_request(
     ensures { IfOk result (λ request. request ≡ request_with address head body) }
 {
     let framed = is_framed(&head);
-    let query = match target_query(head.target.as_slice()) {
-        Some(query) => Some(Bytes::from_slice(alloc, query)?),
-        None => None,
-    };
-    let host = match head.headers.first(b"host") {
-        Some(host) => Bytes::from_slice(alloc, host)?,
-        None => Bytes::new(alloc),
-    };
-    Ok(Request {
-        method: head.method,
-        path: path_of(alloc, head.target)?,
-        query,
-        minor: head.minor,
-        host,
-        headers: head.headers,
-        body,
-        framed,
-        address,
-    })
+    let Head {
+        method,
+        target,
+        minor,
+        headers,
+    } = head;
+    match parts_of(alloc, target, &headers) {
+        Ok(Parts { path, query, host }) => Ok(Request {
+            method,
+            path,
+            query,
+            minor,
+            host,
+            headers,
+            body,
+            framed,
+            address,
+        }),
+        Err(error) => {
+            drop(method);
+            drop(headers);
+            drop(body);
+            Err(error)
+        }
+    }
+}
+
+// What a request has beside the parts of its head.
+#[derive(Drop)]
+struct Parts {
+    path: Text,
+    query: Option<Bytes>,
+    host: Bytes,
+}
+
+fn parts_of(alloc: Global, target: Bytes, headers: &Headers) -> Result<Parts, NoMemory>
+    requires { IsTrue (is_target target) }
+    ensures path { IfOk result (λ parts. normal_form (target_path target) ≡ Ok parts.path) }
+    ensures query { IfOk result (λ parts. parts.query ≡ target_query target) }
+    ensures host { IfOk result (λ parts. parts.host ≡ unwrap_or (first_value (codes "host") headers.now) []) }
+{
+    let query = query_of(alloc, target.as_slice())?;
+    let host = host_of(alloc, headers)?;
+    let path = path_of(alloc, target)?;
+    Ok(Parts { path, query, host })
+}
+
+fn query_of(alloc: Global, target: &[u8]) -> Result<Option<Bytes>, NoMemory>
+    ensures { IfOk result (λ query. query ≡ target_query target.now) }
+{
+    match target_query(target) {
+        Some(query) => Ok(Some(Bytes::from_slice(alloc, query)?)),
+        None => Ok(None),
+    }
+}
+
+fn host_of(alloc: Global, headers: &Headers) -> Result<Bytes, NoMemory>
+    ensures { IfOk result (λ host. host ≡ unwrap_or (first_value (codes "host") headers.now) []) }
+{
+    match headers.first(b"host") {
+        Some(host) => Ok(Bytes::from_slice(alloc, host)?),
+        None => Ok(Bytes::new(alloc)),
+    }
 }
 
 // The normal form of a target's path. A path that is its own normal form isn't copied.

@@ -1,10 +1,10 @@
 //! Bytes that were read and not yet taken.
 
-ghost use Rattle.std.specs.Prelude.{◌≡◌, ◌≤◌, ◌<◌, ◌+◌, ◌-◌, ℕ, [], IfOk, OnOk, OnErr, IsErrOf, length, take, drop, slice_range};
+ghost use Rattle.std.specs.Prelude.{◌≡◌, ◌≤◌, ◌<◌, ◌+◌, ◌-◌, ℕ, [], IfOk, OnOk, IfErr, OnErr, IsErrOf, length, take, drop, slice_range};
 ghost use Rattle.kg_wire.specs.declared.held.FillError.{FillError as Failure};
 ghost use Rattle.kg_wire.specs.declared.held.FillError.TheVariants.{Fault, NoMemory as OutOfMemory};
-ghost use Rattle.kg_wire.specs.Reading.{Fills};
-ghost use Rattle.kg_outside.specs.Causes.{Rose};
+ghost use Rattle.kg_wire.specs.Reading.{Counts};
+ghost use Rattle.kg_wire.specs.ReadingSteps.{Fills, error_of};
 
 use kg_outside::{Failed, Source};
 use std::alloc::{AllocError, Global};
@@ -17,7 +17,7 @@ const PIECE: usize = 16 * 1024;
 const LEAST_ROOM: usize = 4 * 1024;
 
 /// Why no more bytes could be had.
-#[derive(Clone, Copy, Debug, PartialEq, Eq, Hash)]
+#[derive(Clone, Copy)]
 pub enum FillError {
     /// The source failed.
     Fault,
@@ -42,7 +42,7 @@ impl From<Failed> for FillError {
 }
 
 /// The bytes of a stream that were read and not yet taken.
-#[derive(Debug, Drop)]
+#[derive(Drop)]
 pub struct Held {
     // The bytes held stand from `start` up to `end`. Behind them is room for the next read.
     bytes: Vec<u8>,
@@ -92,7 +92,7 @@ impl Held {
         ensures err { OnErr result ((self.new ≡ self.old) × (S.left source.new ≡ S.left source.old)) }
         ensures kept { OnOk result (S.faults source.new ≡ S.faults source.old) }
         ensures beside { S.beside source.new ≡ S.beside source.old }
-        ensures read { IsErrOf result Failure.Fault → Rose (S.faults source.old) (S.faults source.new) }
+        ensures counts { IfErr result (λ f. Counts (S.faults source.old) (S.faults source.new) (error_of f)) }
     {
         let len = self.len();
         move_to_front(&mut self.bytes, self.start, self.end);
@@ -136,7 +136,7 @@ fn read_behind<S: Source>(
     ensures long { len ≤ length bytes.new.items }
     ensures kept { OnOk result (S.faults source.new ≡ S.faults source.old) }
     ensures beside { S.beside source.new ≡ S.beside source.old }
-    ensures read { IsErrOf result Failure.Fault → Rose (S.faults source.old) (S.faults source.new) }
+    ensures counts { IfErr result (λ f. Counts (S.faults source.old) (S.faults source.new) (error_of f)) }
 {
     make_room(bytes, len)?;
     Ok(source.read(bytes.as_mut_slice().split_at_mut(len).1)?)

@@ -1,8 +1,11 @@
 //! What the bytes at hand are: a whole head, the beginning of one, or neither.
 
-ghost use Rattle.std.specs.Prelude.{◌≡◌, ◌≤◌, ◌<◌, None, IfOk, IfSome, OnOk, length};
-ghost use Rattle.kg_wire.specs.Reading.{Judges};
+ghost use Rattle.std.specs.Prelude.{◌≡◌, ◌≤◌, ◌<◌, List, None, IfOk, IfSome, OnOk, length};
+ghost use Rattle.httparse.specs.Grammar.{NeverHasRequest};
+ghost use Rattle.httparse.specs.declared.spans.HeaderSpan.{HeaderSpan as ASpan};
+ghost use Rattle.kg_wire.specs.ReadingSteps.{Judges};
 
+use crate::open_target::ends_in_target;
 use httparse::spans::{EMPTY_HEADER_SPAN, HeaderSpan, RequestSpans, parse_request};
 use httparse::{Error, Status};
 use kg_text::NoMemory;
@@ -20,9 +23,9 @@ pub const FIRST_FIELDS: usize = 64;
 pub enum Judged {
     /// A whole head within its limit.
     Whole(RequestSpans),
-    /// Nothing yet. A head that fits the limit may come.
+    /// No whole head yet, but one may come.
     Open,
-    /// No request, whatever follows.
+    /// Bytes that are refused, whatever follows.
     Never,
 }
 
@@ -62,13 +65,32 @@ fn judge_within(held: &[u8], room: &mut [HeaderSpan]) -> Option<Judged>
                 Some(Judged::Never)
             }
         }
-        Err(error) => {
-            if error == Error::TooManyHeaders && room.len() < MOST_FIELDS {
-                None
-            } else {
-                Some(Judged::Never)
+        Err(error) => match error {
+            Error::TooManyHeaders => {
+                if room.len() < MOST_FIELDS {
+                    None
+                } else {
+                    Some(Judged::Never)
+                }
             }
-        }
+            _ => Some(judge_invalid(held)),
+        },
+    }
+}
+
+// Judges bytes that no head begins with: they are refused, unless they end in a target.
+fn judge_invalid(held: &[u8]) -> Judged
+    requires some { 0 < length held.now }
+    requires never { NeverHasRequest held.now }
+    ensures { (room : List ASpan) → Judges held.now room result }
+{
+    if held.len() >= MOST_HEAD {
+        return Judged::Never;
+    }
+    if ends_in_target(held) {
+        Judged::Open
+    } else {
+        Judged::Never
     }
 }
 

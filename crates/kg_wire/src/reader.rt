@@ -1,16 +1,19 @@
 //! Reading the requests of a connection, one after another.
 
-ghost use Rattle.std.specs.Prelude.{◌≡◌, ◌≤◌, ◌<◌, ◌↔◌, List, ℕ, [], ◌++◌, Option, Some, None, Ok, Err, IfOk, OnOk, IfErr, OnErr, IsErrOf, length};
+ghost use Rattle.std.specs.Prelude.{◌≡◌, ◌≤◌, ◌<◌, ◌+◌, List, ℕ, [], ◌++◌, Some, None, Ok, Err, IsTrue, IfOk, OnOk, IfErr, OnErr, IsErrOf, length, take, drop};
 ghost use Rattle.kg_outside.specs.Causes.{Rose};
 ghost use Rattle.kg_outside.specs.Moves.{with_front};
-ghost use Rattle.kg_wire.specs.Messages.{most_head, Message, print_message, request_of, IsRequest};
-ghost use Rattle.kg_wire.specs.Reading.{Grows, FillsLine, FindsHead, FindsStart, IsStart, Takes, Gives, Ends, IsUnlessPrevented, error_of};
-ghost use Rattle.kg_wire.specs.declared.held.FillError.{FillError as FillFailure};
+ghost use Rattle.kg_wire.specs.Messages.{most_head, Message, print_message, request_of, request_with, IsRequest};
+ghost use Rattle.kg_wire.specs.Reading.{Counts, Grows, Takes, Gives, Ends, IsUnlessPrevented, RefusesUnlessPrevented};
+ghost use Rattle.kg_wire.specs.Refusals.{IsBad, IsCut};
+ghost use Rattle.kg_wire.specs.Targets.{is_target};
+ghost use Rattle.kg_wire.specs.ReadingSteps.{FillsHead, FindsHead, FindsStart, IsOpen, IsStart, error_of};
 ghost use Rattle.kg_wire.specs.declared.reader.ReadError.{ReadError as AnError};
 ghost use Rattle.kg_wire.specs.declared.reader.ReadError.TheVariants.{NoMemory as OutOfMemory};
 
 use crate::checks::body_len;
 use crate::head::{Head, copy_head, make_request};
+use crate::head_end::has_head_end;
 use crate::held::{FillError, Held};
 use crate::judge::{FIRST_FIELDS, Judged, MOST_HEAD, judge};
 use httparse::spans::{EMPTY_HEADER_SPAN, HeaderSpan, RequestSpans};
@@ -21,7 +24,7 @@ use std::alloc::Global;
 use std::marker::Model;
 
 /// The length of the longest body, in bytes.
-const MOST_BODY: u64 = 8_388_608;
+pub const MOST_BODY: u64 = 8_388_608;
 
 /// Why the next request of a connection could not be had. Each later call answers the same.
 #[derive(Clone, Copy, Debug, PartialEq, Eq, Hash)]
@@ -60,7 +63,7 @@ impl From<NoMemory> for ReadError {
 }
 
 /// The start of a message: its head, which passes all checks.
-#[derive(Debug, Drop)]
+#[derive(Drop)]
 pub struct Start {
     pub head: Head,
     /// In bytes.
@@ -116,6 +119,10 @@ impl Reader {
             → with_front self.old.held (S.left source.old) ≡ Some (print_message m ++ rest)
             → IsUnlessPrevented result (Some (request_of self.old.address m)) }
         ensures ended { self.old.error ≡ None → with_front self.old.held (S.left source.old) ≡ Some [] → IsUnlessPrevented result None }
+        ensures bad { (rest : List ℕ) → self.old.error ≡ None → with_front self.old.held (S.left source.old) ≡ Some rest
+            → IsBad rest → RefusesUnlessPrevented result (AnError.Bad self.old.at) }
+        ensures cut { (rest : List ℕ) → self.old.error ≡ None → with_front self.old.held (S.left source.old) ≡ Some rest
+            → IsCut rest → RefusesUnlessPrevented result (AnError.Cut (length rest)) }
         ensures again { (e : AnError) → self.old.error ≡ Some e → (result ≡ Err e) × (self.new ≡ self.old) × (source.new ≡ source.old) }
         ensures stays { IfErr result (λ e. self.new.error ≡ Some e) }
         ensures fresh { OnOk result (self.new.error ≡ None) }
@@ -123,6 +130,8 @@ impl Reader {
         ensures kept { OnOk result (S.faults source.new ≡ S.faults source.old) }
         ensures beside { S.beside source.new ≡ S.beside source.old }
         ensures read { self.old.error ≡ None → IsErrOf result AnError.ReadFault → Rose (S.faults source.old) (S.faults source.new) }
+        ensures counts { self.old.error ≡ None → IfErr result (Counts (S.faults source.old) (S.faults source.new)) }
+        ensures later { S.faults source.old ≤ S.faults source.new }
     {
         if let Some(error) = self.error {
             return Err(error);
@@ -145,7 +154,7 @@ impl Reader {
         ensures address { self.new.address ≡ self.old.address }
         ensures kept { OnOk result (S.faults source.new ≡ S.faults source.old) }
         ensures beside { S.beside source.new ≡ S.beside source.old }
-        ensures read { IsErrOf result AnError.ReadFault → Rose (S.faults source.old) (S.faults source.new) }
+        ensures counts { IfErr result (Counts (S.faults source.old) (S.faults source.new)) }
     {
         match next_head(alloc, source, &mut self.held, &mut self.room, self.at)? {
             Some(start) => Ok(Some(self.take_request(alloc, source, start)?)),
@@ -167,38 +176,70 @@ impl Reader {
         ensures address { self.new.address ≡ self.old.address }
         ensures kept { OnOk result (S.faults source.new ≡ S.faults source.old) }
         ensures beside { S.beside source.new ≡ S.beside source.old }
-        ensures read { IsErrOf result AnError.ReadFault → Rose (S.faults source.old) (S.faults source.new) }
+        ensures counts { IfErr result (Counts (S.faults source.old) (S.faults source.new)) }
     {
-        fill_message(source, &mut self.held, &start, self.at)?;
-        let at = match self.at.checked_add(start.message_len as u64) {
-            Some(at) => at,
-            None => return Err(ReadError::NoMemory),
+        match fill_message(source, &mut self.held, &start, self.at) {
+            Ok(()) => Ok(self.take_held(alloc, start)?),
+            Err(error) => {
+                drop(start);
+                Err(error)
+            }
+        }
+    }
+
+    // Takes the message that begins here, all of which is held.
+    fn take_held(&mut self, alloc: Global, start: Start) -> Result<Request, NoMemory>
+        requires lens { (start.head_len ≤ start.message_len) × (start.message_len ≤ length self.old.held) }
+        requires target { IsTrue (is_target start.head.target) }
+        ensures ok { IfOk result (λ request. request ≡ request_with self.old.address start.head (drop start.head_len (take start.message_len self.old.held))) }
+        ensures held { OnOk result (self.new.held ≡ drop start.message_len self.old.held) }
+        ensures at { OnOk result (self.new.at ≡ self.old.at + start.message_len) }
+        ensures error { self.new.error ≡ self.old.error }
+        ensures address { self.new.address ≡ self.old.address }
+    {
+        let Start {
+            head,
+            head_len,
+            message_len,
+        } = start;
+        let message = self.held.as_slice().split_at(message_len).0;
+        let body = match Bytes::from_slice(alloc, message.split_at(head_len).1) {
+            Ok(body) => body,
+            Err(_) => {
+                drop(head);
+                return Err(NoMemory);
+            }
         };
-        let message = self.held.as_slice().split_at(start.message_len).0;
-        let body = Bytes::from_slice(alloc, message.split_at(start.head_len).1)?;
-        let request = make_request(alloc, start.head, body, self.address)?;
-        self.held.take(start.message_len);
+        let Some(at) = self.at.checked_add(message_len as u64) else {
+            drop(head);
+            drop(body);
+            return Err(NoMemory);
+        };
+        let request = make_request(alloc, head, body, self.address)?;
+        self.held.take(message_len);
         self.at = at;
         Ok(request)
     }
 }
 
-// Reads on until more can be told of a head: a piece with a line feed came, as many bytes are held as
-// the longest head has, or the source ended. Answers whether it ended.
-fn fill_line<S: Source>(source: &mut S, held: &mut Held) -> Result<bool, FillError>
+// Reads on until more can be told of a head: the end of one may have come, twice as much is held as
+// before, or as many bytes as the longest head has, or the source ended. Answers whether it ended. A head
+// is judged once it is whole, and before that so seldom that all judging together takes linear time.
+fn fill_head<S: Source>(source: &mut S, held: &mut Held) -> Result<bool, FillError>
     requires { length held.old < most_head }
-    ensures ok { IfOk result (FillsLine held.old held.new (S.left source.old) (S.left source.new)) }
+    ensures ok { IfOk result (FillsHead held.old held.new (S.left source.old) (S.left source.new)) }
     ensures err { OnErr result (Grows held.old held.new (S.left source.old) (S.left source.new)) }
     ensures kept { OnOk result (S.faults source.new ≡ S.faults source.old) }
     ensures beside { S.beside source.new ≡ S.beside source.old }
-    ensures read { IsErrOf result FillFailure.Fault → Rose (S.faults source.old) (S.faults source.new) }
+    ensures counts { IfErr result (λ f. Counts (S.faults source.old) (S.faults source.new) (error_of f)) }
 {
+    let judged = held.len();
     while held.len() < MOST_HEAD {
         let before = held.len();
         if held.fill(source)? == 0 {
             return Ok(true);
         }
-        if held.as_slice().split_at(before).1.contains(&b'\n') {
+        if held.len() >= 2 * judged || has_head_end(held.as_slice(), before) {
             return Ok(false);
         }
     }
@@ -216,7 +257,7 @@ fn find_head<S: Source>(
     ensures err { IfErr result (Ends at held.old held.new (S.left source.old) (S.left source.new)) }
     ensures kept { OnOk result (S.faults source.new ≡ S.faults source.old) }
     ensures beside { S.beside source.new ≡ S.beside source.old }
-    ensures read { IsErrOf result AnError.ReadFault → Rose (S.faults source.old) (S.faults source.new) }
+    ensures counts { IfErr result (Counts (S.faults source.old) (S.faults source.new)) }
 {
     let mut ended = false;
     loop {
@@ -228,14 +269,15 @@ fn find_head<S: Source>(
         if ended {
             return nothing_whole(held);
         }
-        ended = fill_line(source, held)?;
+        ended = fill_head(source, held)?;
     }
 }
 
 // What the end of the source says of bytes that have no whole head.
 fn nothing_whole(held: &Held) -> Result<Option<RequestSpans>, ReadError>
+    requires { IsOpen held.now }
     ensures none { OnOk result ((result ≡ Ok None) × (held.now ≡ [])) }
-    ensures cut { IfErr result (λ e. (e ≡ AnError.Cut (length held.now)) × (0 < length held.now)) }
+    ensures cut { IfErr result (λ e. (e ≡ AnError.Cut (length held.now)) × IsCut held.now) }
 {
     let have = held.len();
     if have == 0 {
@@ -257,7 +299,7 @@ fn next_head<S: Source>(
     ensures err { IfErr result (Ends at held.old held.new (S.left source.old) (S.left source.new)) }
     ensures kept { OnOk result (S.faults source.new ≡ S.faults source.old) }
     ensures beside { S.beside source.new ≡ S.beside source.old }
-    ensures read { IsErrOf result AnError.ReadFault → Rose (S.faults source.old) (S.faults source.new) }
+    ensures counts { IfErr result (Counts (S.faults source.old) (S.faults source.new)) }
 {
     let spans = match find_head(source, held, room, at)? {
         Some(spans) => spans,
@@ -291,7 +333,7 @@ fn fill_message<S: Source>(
     ensures err { IfErr result (Ends at held.old held.new (S.left source.old) (S.left source.new)) }
     ensures kept { OnOk result (S.faults source.new ≡ S.faults source.old) }
     ensures beside { S.beside source.new ≡ S.beside source.old }
-    ensures read { IsErrOf result AnError.ReadFault → Rose (S.faults source.old) (S.faults source.new) }
+    ensures counts { IfErr result (Counts (S.faults source.old) (S.faults source.new)) }
 {
     while held.len() < start.message_len {
         if held.fill(source)? == 0 {

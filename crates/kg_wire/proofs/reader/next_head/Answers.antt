@@ -1,9 +1,8 @@
 use Rattle.std.proofs.Common.{◌≡◌, Some, None, refl, sym, ap, ◌∙◌, arith}
 use Rattle.kg_wire.specs.Checks.{body_len}
 use Rattle.kg_wire.specs.Messages.{head_of}
-use Rattle.kg_wire.specs.Reading.{head_at}
-use Rattle.kg_wire.proofs.JudgeLemmas.{head_some}
-use Rattle.kg_wire.proofs.ReaderLemmas.{names_are_tokens, head_at-head_of, never_passes, never_fits}
+use Rattle.kg_wire.specs.ReadingSteps.{head_at}
+use Rattle.kg_wire.proofs.ReaderLemmas.{names_are_tokens, head_at-head_of, bad_when_failing, bad_when_long}
 use Rattle.kg_wire.proofs.reader.next_head.Goals as goal
 
 pub copy_head-requires-clause-names : goal.copy_head-requires-clause-names
@@ -23,7 +22,7 @@ returns-in-None-body_len-clause-err g c =
     let fails : body_len (head_of head) ≡ None =
     ap body_len (sym (copied ∙ head_at-head_of held c.find_head.new.room.items c.in-Some.spans head there))
     ∙ sym c.body_len.ensures ∙ c.in-None-body_len.is in
-    (found.1, (refl, head_some held head _ there.reads, never_passes held head _ there.reads fails))
+    (found.1, (refl, bad_when_failing held head _ there.reads (omega (arith, there.len, found.0.0)) fails))
 
 pub returns-then-body_len-gt-MOST_BODY-clause-err : goal.returns-then-body_len-gt-MOST_BODY-clause-err
 returns-then-body_len-gt-MOST_BODY-clause-err g c =
@@ -36,4 +35,4 @@ returns-then-body_len-gt-MOST_BODY-clause-err g c =
     let states : body_len (head_of head) ≡ Some c.in-Some-body_len.body_len =
     ap body_len (sym (copied ∙ head_at-head_of held c.find_head.new.room.items c.in-Some.spans head there))
     ∙ sym c.body_len.ensures ∙ c.in-Some-body_len.is in
-    (found.1, (refl, head_some held head _ there.reads, never_fits held head _ _ there.reads states (omega arith)))
+    (found.1, (refl, bad_when_long held head _ _ there.reads (omega (arith, there.len, found.0.0)) states (omega arith)))

@@ -1,5 +1,5 @@
 use Rattle.std.proofs.Common.{Err}
-use Rattle.kg_wire.proofs.NextLemmas.{reads_request, reads_end}
+use Rattle.kg_wire.proofs.NextLemmas.{reads_request, reads_end, refuses_bad, refuses_cut}
 use Rattle.kg_wire.proofs.reader.Reader.next_request.Goals as goal
 
 pub returns-in-Err-clause-reads : goal.returns-in-Err-clause-reads
@@ -21,3 +21,23 @@ pub returns-in_default-result-clause-ended : goal.returns-in_default-result-clau
 returns-in_default-result-clause-ended g c = λ none ahead.
     reads_end c.read-result.result c.args.self.now c.read-result.new.self (g.S.Source.left c.args.source.now)
     (g.S.Source.left c.read-result.new.source) ahead c.read-result.ensures.ok c.read-result.ensures.err
+
+pub returns-in-Err-clause-bad : goal.returns-in-Err-clause-bad
+returns-in-Err-clause-bad g c = λ rest none ahead is.
+    refuses_bad (Err c.in-Err.error) c.args.self.now c.read-result.new.self (g.S.Source.left c.args.source.now)
+    (g.S.Source.left c.read-result.new.source) rest ahead is tt c.in-Err.ensures.err
+
+pub returns-in_default-result-clause-bad : goal.returns-in_default-result-clause-bad
+returns-in_default-result-clause-bad g c = λ rest none ahead is.
+    refuses_bad c.read-result.result c.args.self.now c.read-result.new.self (g.S.Source.left c.args.source.now)
+    (g.S.Source.left c.read-result.new.source) rest ahead is c.read-result.ensures.ok c.read-result.ensures.err
+
+pub returns-in-Err-clause-cut : goal.returns-in-Err-clause-cut
+returns-in-Err-clause-cut g c = λ rest none ahead is.
+    refuses_cut (Err c.in-Err.error) c.args.self.now c.read-result.new.self (g.S.Source.left c.args.source.now)
+    (g.S.Source.left c.read-result.new.source) rest ahead is tt c.in-Err.ensures.err
+
+pub returns-in_default-result-clause-cut : goal.returns-in_default-result-clause-cut
+returns-in_default-result-clause-cut g c = λ rest none ahead is.
+    refuses_cut c.read-result.result c.args.self.now c.read-result.new.self (g.S.Source.left c.args.source.now)
+    (g.S.Source.left c.read-result.new.source) rest ahead is c.read-result.ensures.ok c.read-result.ensures.err

@@ -1,7 +1,7 @@
 use Rattle.std.proofs.Common.{◌≡◌, ◌-◌, length}
 use Rattle.kg_wire.specs.Messages.{most_head}
 use Rattle.kg_wire.specs.Reading.{Grows}
-use Rattle.kg_wire.proofs.reader.fill_line.Given as goal
+use Rattle.kg_wire.proofs.reader.fill_head.Given as goal
 
 abbrev pub invariant-loop-held : goal.invariant-loop-held
 invariant-loop-held g l = record {
