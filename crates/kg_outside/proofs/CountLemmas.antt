@@ -1,5 +1,5 @@
--- The runs of a counter that gives a value of each number.
-use Rattle.std.specs.Prelude.{◌≡◌, ℕ, ◌+◌, ◌<◌, ◌^◌, List, [], ◌∷◌, length, map, refl}
+-- The runs of a machine that counts its steps.
+use Rattle.std.specs.Prelude.{◌≡◌, ℕ, ◌+◌, ◌-◌, ◌<◌, ◌^◌, min, List, [], ◌∷◌, length, map, refl}
 use Rattle.std.specs.List.{range_with_len}
 use Rattle.std.proofs.Common.{ap, ◌∙◌, subst, arith}
 use Rattle.kg_outside.specs.Counts.{one_more}
@@ -32,4 +32,16 @@ run_count f before after (x ∷ xs) run below =
     let rest : IsRun (λ n. f (one_more n)) one_more (before + 1) after xs =
     subst (λ n. IsRun (λ n. f (one_more n)) one_more n after xs) next run.1 in
     let later = run_count f (before + 1) after xs rest (omega arith) in
+    omega arith
+
+-- the count of a machine that counts each step has risen by one for each output, as far as 64 bits hold it
+pub run_counted : {S T : Type 0} (output : S → T) (next : S → S) (count : S → ℕ) (before after : S) (outputs : List T)
+    → ((state : S) → count (next state) ≡ one_more (count state)) → IsRun output next before after outputs → count before < 2 ^ 64
+    → count after ≡ min (count before + length outputs) (2 ^ 64 - 1)
+run_counted output next count before after [] steps run below =
+    let same : count after ≡ count before = ap count run in
+    omega arith
+run_counted output next count before after (x ∷ xs) steps run below =
+    let one : count (next before) ≡ one_more (count before) = steps before in
+    let later = run_counted output next count (next before) after xs steps run.1 (omega arith) in
     omega arith

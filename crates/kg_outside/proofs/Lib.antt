@@ -1,3 +1,4 @@
 mod CountLemmas
+mod ListClockLemmas
 pub mod Observed
 mod ReadLemmas

@@ -20,7 +20,7 @@ mod source;
 mod target;
 
 pub use crate::clock::Clock;
-pub use crate::clocks::{ListClock, StillClock};
+pub use crate::clocks::{ListClock, StillClock, readings_are_counted};
 pub use crate::conn::Conn;
 pub use crate::count_ids::{CountIds, draws_count_up};
 pub use crate::ids::Ids;
