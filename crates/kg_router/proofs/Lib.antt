@@ -2,5 +2,6 @@ mod BestRoute
 mod PlaceLemmas
 mod RouteOrder
 mod Search
+mod SomeBest
 pub mod TableLemmas
 mod ValidPaths

@@ -1,4 +1,4 @@
--- Where the services stand, by their ids.
+-- Machinery for proofs: where the services stand, by their ids.
 use Rattle.std.specs.Prelude.{◌≡◌, ◌==◌, ℕ, List, Option, nat_eq}
 use Rattle.std.specs.List.{position}
 use Rattle.indexmap.specs.IndexMap.{get}

@@ -1,4 +1,4 @@
--- The order of routes, by what it looks at of each.
+-- Machinery for proofs: the order of routes, by what it looks at of each.
 use Rattle.std.specs.Prelude.{[], ◌∷◌, length, List}
 use Rattle.std.specs.declared.cmp.Ordering.{Ordering}
 use Rattle.kg_row_types.specs.declared.route.Route.{Route}

@@ -1,4 +1,4 @@
--- The routes that can be found, in the order in which they are tried.
+-- Machinery for proofs: the routes that can be found, in the order in which they are tried.
 use Rattle.std.specs.Prelude.{◌≡◌, ℕ, ◌<◌, All, Any, List, Some, IsSome, length, slice_index_or}
 use Rattle.std.specs.List.Sorted.{IsSortedByKey}
 use Rattle.kg_row_types.specs.declared.route.Route.{Route}

@@ -18,7 +18,7 @@ use std::alloc::{AllocError, Global};
 
 /// A route whose service is there and enabled, by its place among the tests and that of its
 /// service among the services.
-#[derive(Clone, Copy, Debug)]
+#[derive(Clone, Copy)]
 pub struct Candidate {
     pub rank: Rank,
     pub test: usize,

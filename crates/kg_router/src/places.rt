@@ -10,7 +10,7 @@ use kg_text::NoMemory;
 use std::alloc::Global;
 
 /// For each id of some service the place of the first one that has it.
-#[derive(Debug, Drop)]
+#[derive(Drop)]
 pub struct ServicePlaces {
     by_id: IndexMap<Id, usize>,
 }

@@ -13,7 +13,7 @@ use kg_text::{List, Text};
 use std::cmp::Ordering;
 
 /// What the order of routes looks at of one route.
-#[derive(Clone, Copy, Debug)]
+#[derive(Clone, Copy)]
 pub struct Rank {
     /// How many of methods, hosts, headers and paths are set.
     attributes: usize,

@@ -1,9 +1,8 @@
-use Rattle.std.proofs.Common.{◌==◌, ◌++◌, ◌∷◌, [], Some, None, cond, take, length, sym, ap, ◌∙◌, arith}
+use Rattle.std.proofs.Common.{◌==◌, ◌++◌, ◌∷◌, [], Some, None, cond, take, sym, ap, ◌∙◌, arith}
 use Rattle.std.proofs.lemmas.List.{length-take-le, take_all, take_more}
 use Rattle.std.specs.List.{position}
 use Rattle.std.specs.Option.{option_or}
 use Rattle.kg_row_types.specs.declared.service.Service.{Service}
-use Rattle.kg_router.specs.Places.{place_in}
 use Rattle.kg_router.proofs.PlaceLemmas.{position-push}
 use Rattle.kg_router.proofs.places.ServicePlaces.of.Goals as goal
 
