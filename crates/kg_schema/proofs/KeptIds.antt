@@ -79,7 +79,7 @@ bytes_fit bytes are =
     (are 0 (omega arith)) (are 1 (omega arith)) (are 2 (omega arith)) (are 3 (omega arith)) (are 4 (omega arith)) (are 5 (omega arith)) (are 6 (omega arith)) (are 7 (omega arith))
     (are 8 (omega arith)) (are 9 (omega arith)) (are 10 (omega arith)) (are 11 (omega arith)) (are 12 (omega arith)) (are 13 (omega arith)) (are 14 (omega arith)) (are 15 (omega arith))
 
-id_fits : (text : List ℕ) → IfSome (id_of text) (λ id. id < 2 ^ 128)
+pub id_fits : (text : List ℕ) → IfSome (id_of text) (λ id. id < 2 ^ 128)
 unfolding id_of
 id_fits text = at_parsed (parsed text) (parsed_ok text)
   where

@@ -8,6 +8,7 @@ mod ReadUrls
 mod ValidConfigs
 mod ValidConsumers
 mod ValidFinished
+mod ValidIds
 mod ValidParts
 mod ValidPlugins
 mod ValidRoutes

@@ -20,17 +20,17 @@ use Rattle.std.specs.declared.cmp.Ordering.{Ordering}
 use Rattle.std.specs.declared.cmp.Ordering.TheVariants.{Less, Equal, Greater}
 use Rattle.serde_json.specs.Data.{Data, null, boolean, number, string, array, object, no_items, item, Members, no_members, member}
 use Rattle.serde_json.specs.Find.{as_object, as_str}
+use Rattle.kg_text.proofs.NameLemmas.{IsName-lower}
 use Rattle.kg_text.specs.Names.{is_token}
 use Rattle.kg_row_types.specs.ValidRows.{IsValidHeaderTest}
 use Rattle.kg_row_types.specs.Words.{is_free_text, is_list_of}
 use Rattle.kg_row_types.specs.Words.{is_set as is_some_set}
 use Rattle.kg_row_types.specs.declared.route.HeaderTest.{HeaderTest}
 use Rattle.kg_schema.proofs.ReadTexts.{list_ok, takes_free_text}
-use Rattle.kg_field_tables.specs.Judging.{each_text, is_header, is_set, list_rule, texts_of, typed}
-use Rattle.kg_field_rules.specs.Rules.{sooner}
+use Rattle.kg_bodies.proofs.ListLemmas.{header_parts}
+use Rattle.kg_field_tables.specs.Judging.{each_text, header_rule, is_header, is_set, list_rule, texts_of, typed}
 use Rattle.kg_bodies.specs.Settings.{test_of, tests_at, tests_in, value_at, with_test}
 use Rattle.kg_field_rules.specs.declared.rule.Rule.{Rule}
-use Rattle.kg_field_rules.specs.declared.rule.Rule.TheVariants.{Syntax}
 use Rattle.kg_field_tables.specs.declared.shape.Shape.TheVariants as shape
 use Rattle.kg_field_rules.specs.declared.word.Word.TheVariants as word
 
@@ -53,20 +53,6 @@ texts_of_set (array (item first rest)) texts set is = at_first (as_str first) (e
     at_first None others found e = cc
     at_first (Some text) None found e = cc
     at_first (Some text) (Some more) found e = let same : text ∷ more ≡ found = cc in subst (λ (xs : List (List ℕ)). nat_lt 0 (length xs) ≡ true) same (some_more text more)
-
--- no rule is told at a header's values, and none at its name
-both_none : (values : Option Rule) (header : Bool) → sooner values (if header then None else Some Syntax) ≡ None → (values ≡ None) × (header ≡ true)
-both_none None true none = (refl, refl)
-both_none None false none = cc
-both_none (Some rule) true none = cc
-both_none (Some rule) false none = absurd (sooner_some rule none)
-  where
-    at_rank : (test : Bool) (a b : Rule) → (if test then Some a else Some b) ≡ None → ⊥
-    at_rank true a b e = cc
-    at_rank false a b e = cc
-
-    sooner_some : (rule : Rule) → sooner (Some rule) (Some Syntax) ≡ None → ⊥
-    sooner_some rule e = at_rank _ rule Syntax e
 
 -- the texts of values that break no rule
 values_ok : (d : Data) → is_set d ≡ true → typed (list_rule word.FreeText) (texts_of d) ≡ None
@@ -92,22 +78,20 @@ test_of_ok name d = at_set (is_set d) refl
 
     made : is_set d ≡ true → typed (list_rule word.FreeText) (texts_of d) ≡ None → is_header name ≡ true → IsValidHeaderTest (test_made name d)
     made set values header = record {
+      form = IsName-lower name (and_parts (is_token name) (not (bytes_eq (str_to_ascii_lowercase name) (codes "host"))) header).0;
       name = (and_parts (is_token name) (not (bytes_eq (str_to_ascii_lowercase name) (codes "host"))) header).1;
       values = values_ok d set values;
     }
 
-    at_rule : (b : Bool) → (is_token name && is_none (sooner (if true then typed (list_rule word.FreeText) (texts_of d) else None) (if is_header name then None else Some Syntax))) ≡ b → is_set d ≡ true
-        → IfSome (if b then Some (test_made name d) else None) IsValidHeaderTest
+    at_rule : (b : Bool) → (is_token name && is_none (header_rule name d)) ≡ b → is_set d ≡ true → IfSome (if b then Some (test_made name d) else None) IsValidHeaderTest
     at_rule true passes set =
-        let rule = sooner (if true then typed (list_rule word.FreeText) (texts_of d) else None) (if is_header name then None else Some Syntax) in
-        let told = none_told rule (and_parts (is_token name) (is_none rule) passes).1 in
-        let parts = both_none (typed (list_rule word.FreeText) (texts_of d)) (is_header name) told in
-        made set parts.0 parts.1
+        let told = none_told (header_rule name d) (and_parts (is_token name) (is_none (header_rule name d)) passes).1 in
+        let parts = header_parts (is_header name) (texts_of d) told in
+        made set parts.1 parts.0
     at_rule false fails set = tt
 
-    at_set : (b : Bool) → is_set d ≡ b
-        → IfSome (if (b && is_token name && is_none (sooner (if b then typed (list_rule word.FreeText) (texts_of d) else None) (if is_header name then None else Some Syntax))) then Some (test_made name d) else None) IsValidHeaderTest
-    at_set true set = at_rule (is_token name && is_none (sooner (if true then typed (list_rule word.FreeText) (texts_of d) else None) (if is_header name then None else Some Syntax))) refl set
+    at_set : (b : Bool) → is_set d ≡ b → IfSome (if (b && is_token name && is_none (header_rule name d)) then Some (test_made name d) else None) IsValidHeaderTest
+    at_set true set = at_rule (is_token name && is_none (header_rule name d)) refl set
     at_set false set = tt
 
 -- ---- an entry more

@@ -12,8 +12,10 @@ use Rattle.serde_json.specs.Find.{as_str, get}
 use Rattle.kg_row_types.specs.ConfigWords.{is_key_name, is_ipv4_block, is_edit, is_header_edit, is_header_rename}
 use Rattle.kg_row_types.specs.Words.{are_distinct, has_length, is_free_text, is_host, is_list_of, is_method, is_name, is_normal_path, is_route_path, is_text_within, is_username}
 use Rattle.kg_field_tables.specs.Judging.{is_set, judged, list_rule, shape_rule, texts_of, typed}
+use Rattle.kg_bodies.proofs.ListLemmas.{list_steps}
 use Rattle.kg_bodies.specs.Settings.{text_at, texts_at, value_at}
-use Rattle.kg_field_rules.specs.TextRules.{has_form, is_longer, kept, longest, rule_of_empty, text_rule}
+use Rattle.kg_field_rules.proofs.RuleLemmas.{text_steps}
+use Rattle.kg_field_rules.specs.TextRules.{has_form, is_longer, kept, longest, text_rule}
 use Rattle.kg_field_rules.specs.declared.rule.Rule.{Rule}
 use Rattle.kg_field_rules.specs.declared.rule.Rule.TheVariants.{Empty, OutOfRange, Syntax, Repeated}
 use Rattle.kg_field_tables.specs.declared.shape.Shape.{Shape}
@@ -66,7 +68,8 @@ no_rule_told false false false rule h = cc
 -- a text that breaks no rule isn't empty, isn't too long, and is spelled as its kind is
 pub text_parts : (kind : Word) (text : List ℕ) → text_rule kind text ≡ None
     → ((length text == 0) ≡ false) × (is_longer kind text ≡ false) × (has_form kind text ≡ true)
-text_parts kind text ok = no_rule_told (length text == 0) (is_longer kind text) (has_form kind text) (rule_of_empty kind) ok
+text_parts kind text ok =
+    no_rule_told (length text == 0) (is_longer kind text) (has_form kind text) Empty (sym (text_steps (length text == 0) (is_longer kind text) (has_form kind text)) ∙ ok)
 
 within : (n most : ℕ) → (n == 0) ≡ false → nat_lt most n ≡ false → (nat_lt 0 n && nat_le n most) ≡ true
 within n most some short = grind (arith, nat_tests)
@@ -111,7 +114,7 @@ pub takes_key_name : Takes word.Token is_key_name
 takes_key_name text ok = bounded word.Token 255 refl text ok
 
 pub takes_block : Takes word.AddressBlock is_ipv4_block
-takes_block text ok = bounded word.AddressBlock 255 refl text ok
+takes_block text ok = (text_parts word.AddressBlock text ok).2
 
 pub takes_edit : Takes word.Edit is_edit
 takes_edit text ok = bounded word.Edit 255 refl text ok
@@ -161,7 +164,7 @@ few n m same short = grind (arith, nat_tests)
 -- a list that breaks no rule, as it is kept
 pub list_ok : (kind : Word) (test : List ℕ → Bool) → Takes kind test → (texts : List (List ℕ)) → list_rule kind texts ≡ None → IsTrue (is_list_of test (map (kept kind) texts))
 list_ok kind test takes texts ok =
-    let parts = list_parts (list_any (λ text. length text == 0) texts) (nat_lt 64 (length texts) || list_any (is_longer kind) texts) (list_all (has_form kind) texts) (are_distinct (map (kept kind) texts)) ok in
+    let parts = list_parts (list_any (λ text. length text == 0) texts) (nat_lt 64 (length texts) || list_any (is_longer kind) texts) (list_all (has_form kind) texts) (are_distinct (map (kept kind) texts)) (sym (list_steps kind texts) ∙ ok) in
     let short = or_parts (nat_lt 64 (length texts)) (list_any (is_longer kind) texts) parts.1 in
     let all_pass = each_passes kind test takes texts parts.0 short.1 parts.2 in
     let not_many = few (length (map (kept kind) texts)) (length texts) (length-map texts (kept kind)) short.0 in

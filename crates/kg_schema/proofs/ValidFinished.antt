@@ -13,7 +13,7 @@ use Rattle.kg_row_making.specs.Bases.{BaseValue}
 use Rattle.kg_schema.specs.Between.{faults_between, id_faults, is_renamed, row_faults, parent_faults, word_faults}
 use Rattle.kg_schema.specs.Finished.{row_over}
 use Rattle.kg_field_rules.specs.Rules.{Fault}
-use Rattle.kg_schema.specs.ValidBases.{IsValidBase}
+use Rattle.kg_schema.specs.ValidBases.{AreIds, HasId, IsValidBase}
 use Rattle.kg_row_making.specs.declared.base.Links.{Links}
 use Rattle.kg_row_making.specs.declared.base.ParentField.{ParentField}
 use Rattle.kg_field_rules.specs.declared.rule.Rule.TheVariants.{Fixed}
@@ -32,17 +32,17 @@ row_told wanted body base links contradicted none =
     let all = not_renamed (is_renamed wanted body base) (id_faults body base ++ word_faults wanted body base ++ parent_faults contradicted ++ row) none in
     (neither (id_faults body base ++ word_faults wanted body base ++ parent_faults contradicted) row all).1
 
-by_kind : (wanted : Kind) (body : Data) (base : BaseValue) (links : Links) → IsValidBase wanted base → row_faults body base links (row_over wanted body base links) ≡ [] → IsValidRow (row_over wanted body base links)
+by_kind : (wanted : Kind) (body : Data) (base : BaseValue) (links : Links) → HasId base → AreIds links → IsValidBase wanted base → row_faults body base links (row_over wanted body base links) ≡ [] → IsValidRow (row_over wanted body base links)
 unfolding row_over
-by_kind kind.Service body base links ok none = service_ok body base ok none
-by_kind kind.Route body base links ok none = route_ok body base links ok none
-by_kind kind.Consumer body base links ok none = consumer_ok body base ok none
-by_kind kind.KeyCred body base links ok none = key_ok body base links ok none
-by_kind kind.BasicCred body base links ok none = basic_ok body base links ok none
-by_kind kind.Acl body base links ok none = acl_ok body base links ok none
-by_kind kind.Plugin body base links ok none = plugin_ok body base links ok none
+by_kind kind.Service body base links is ids ok none = service_ok body base is ok none
+by_kind kind.Route body base links is ids ok none = route_ok body base links is ids ok none
+by_kind kind.Consumer body base links is ids ok none = consumer_ok body base is ok none
+by_kind kind.KeyCred body base links is ids ok none = key_ok body base links is ids ok none
+by_kind kind.BasicCred body base links is ids ok none = basic_ok body base links is ids ok none
+by_kind kind.Acl body base links is ids ok none = acl_ok body base links is ids ok none
+by_kind kind.Plugin body base links is ids ok none = plugin_ok body base links is ids ok none
 
 -- what breaks no rule over a valid base makes a valid row
 pub finished_ok : (wanted : Kind) (body : Data) (base : BaseValue) (links : Links) (contradicted : Option ParentField)
-    → IsValidBase wanted base → faults_between wanted body base links contradicted ≡ [] → IsValidRow (row_over wanted body base links)
-finished_ok wanted body base links contradicted ok none = by_kind wanted body base links ok (row_told wanted body base links contradicted none)
+    → HasId base → AreIds links → IsValidBase wanted base → faults_between wanted body base links contradicted ≡ [] → IsValidRow (row_over wanted body base links)
+finished_ok wanted body base links contradicted is ids ok none = by_kind wanted body base links is ids ok (row_told wanted body base links contradicted none)

@@ -5,6 +5,7 @@ use Rattle.std.proofs.lemmas.List.Elements.{All-nil}
 use Rattle.std.specs.List.Sorted.{IsStrictlySortedBy}
 use Rattle.std.specs.Prelude.{IfSome, IsTrue, ◌≤ℤ◌}
 use Rattle.serde_json.specs.Data.{Data}
+use Rattle.kg_row_types.specs.Ids.{IsId}
 use Rattle.kg_row_types.specs.ValidRows.{IsValidHeaderTest, IsValidRoute}
 use Rattle.kg_row_types.specs.Words.{is_kept_route_host, is_list_of, is_method, is_name, is_route_path}
 use Rattle.kg_row_types.specs.declared.entity.Entity.TheVariants as row
@@ -14,12 +15,13 @@ use Rattle.kg_schema.proofs.KeptHosts.{takes_route_host}
 use Rattle.kg_schema.proofs.ReadHeaders.{AreOrdered, tests_ok}
 use Rattle.kg_schema.proofs.ReadNumbers.{integer_ok}
 use Rattle.kg_schema.proofs.ReadTexts.{takes_accepted, takes_method, takes_name, takes_route_path, text_ok, texts_ok}
+use Rattle.kg_schema.proofs.ValidIds.{stamps_ok}
 use Rattle.kg_schema.proofs.ValidParts.{list_over_ok, neither, not_broken, or_ok, unwrapped_ok}
 use Rattle.kg_row_making.specs.Bases.{BaseValue, New, Again, Word, Old, old_as, route_of, stamps_of}
 use Rattle.kg_schema.specs.Between.{fault_if, fits_nothing, is_missing, route_faults}
 use Rattle.kg_schema.specs.Finished.{route_before, route_over}
 use Rattle.kg_bodies.specs.Settings.{integer_at, text_at, texts_at, tests_at}
-use Rattle.kg_schema.specs.ValidBases.{IsValidBase}
+use Rattle.kg_schema.specs.ValidBases.{AreIds, HasId, IsValidBase}
 use Rattle.kg_row_making.specs.declared.base.Links.{Links}
 use Rattle.kg_row_making.specs.declared.base.Stamps.{Stamps}
 use Rattle.kg_field_rules.specs.declared.rule.Rule.TheVariants.{Required}
@@ -36,6 +38,8 @@ IsPriority priority = (neg_ℤ (pos 1000000) ≤ℤ priority) × (priority ≤�
 
 -- what stands in a route before a body sets anything: perhaps nothing that a request can fit
 record AreFields (route : Route) : Type 0 where
+  id : IsId route.id
+  service : IsId route.service
   name : IfSome route.name IsName
   methods : IsListOf is_method route.methods
   hosts : IsListOf is_kept_route_host route.hosts
@@ -50,11 +54,13 @@ no_headers = record { valid = All-nil IsValidHeaderTest; ordered = tt }
 middle : IsPriority (pos 0)
 middle = (record { le = tt }, record { le = tt })
 
-before_ok : (base : BaseValue) (stamps : Stamps) → IsValidBase kind.Route base → AreFields (route_before base stamps)
-before_ok (New id now) stamps ok = record { name = tt; methods = refl; hosts = refl; paths = refl; headers = no_headers; priority = middle }
-before_ok (Again id created_at now) stamps ok = record { name = tt; methods = refl; hosts = refl; paths = refl; headers = no_headers; priority = middle }
-before_ok (Word id text now) stamps ok = record { name = takes_accepted word.Name is_name takes_name text ok; methods = refl; hosts = refl; paths = refl; headers = no_headers; priority = middle }
-before_ok (Old (row.Route old) now) stamps ok = record {
+before_ok : (base : BaseValue) (stamps : Stamps) → IsId stamps.id → IsValidBase kind.Route base → AreFields (route_before base stamps)
+before_ok (New id now) stamps is ok = record { id = is; service = is; name = tt; methods = refl; hosts = refl; paths = refl; headers = no_headers; priority = middle }
+before_ok (Again id created_at now) stamps is ok = record { id = is; service = is; name = tt; methods = refl; hosts = refl; paths = refl; headers = no_headers; priority = middle }
+before_ok (Word id text now) stamps is ok = record { id = is; service = is; name = takes_accepted word.Name is_name takes_name text ok; methods = refl; hosts = refl; paths = refl; headers = no_headers; priority = middle }
+before_ok (Old (row.Route old) now) stamps is ok = record {
+  id = ok.id;
+  service = ok.service;
   name = ok.name;
   methods = ok.methods;
   hosts = ok.hosts;
@@ -62,7 +68,7 @@ before_ok (Old (row.Route old) now) stamps ok = record {
   headers = record { valid = ok.headers; ordered = ok.ordered };
   priority = (ok.low, ok.high);
 }
-before_ok (Old old now) stamps ok = record { name = tt; methods = refl; hosts = refl; paths = refl; headers = no_headers; priority = middle }
+before_ok (Old old now) stamps is ok = record { id = is; service = is; name = tt; methods = refl; hosts = refl; paths = refl; headers = no_headers; priority = middle }
 
 -- ---- something is set
 
@@ -82,13 +88,15 @@ attributes a b c d some = rw (is_some a, is_some b, is_some c, is_some d) (any_o
 
 -- ---- the finished route
 
-over_ok : (body : Data) (base : BaseValue) (links : Links) (before : Route) → AreFields before → route_faults base links (route_over body links before) ≡ [] → IsValidRoute (route_over body links before)
-over_ok body base links before old none =
+over_ok : (body : Data) (base : BaseValue) (links : Links) (before : Route) → AreIds links → AreFields before → route_faults base links (route_over body links before) ≡ [] → IsValidRoute (route_over body links before)
+over_ok body base links before ids old none =
     let after = route_over body links before in
     let told = neither (fault_if (is_missing links.service (old_as route_of base)) (codes "service") Required) (fault_if (fits_nothing after) (codes "paths") Required) none in
     let headers = list_over_ok AreOrdered (tests_at body) before.headers (tests_ok body) old.headers in
     let priority = unwrapped_ok IsPriority (integer_at (neg_ℤ (pos 1000000)) (pos 1000000) (codes "regex_priority") body) before.regex_priority (integer_ok (neg_ℤ (pos 1000000)) (pos 1000000) (codes "regex_priority") body) old.priority in
     record {
+      id = old.id;
+      service = unwrapped_ok IsId links.service before.service ids.service old.service;
       name = or_ok IsName (text_at word.Name (codes "name") body) before.name (text_ok word.Name is_name takes_name (codes "name") body) old.name;
       methods = list_over_ok (IsListOf is_method) (texts_at word.Method (codes "methods") body) before.methods (texts_ok word.Method is_method takes_method (codes "methods") body) old.methods;
       hosts = list_over_ok (IsListOf is_kept_route_host) (texts_at word.RouteHost (codes "hosts") body) before.hosts (texts_ok word.RouteHost is_kept_route_host takes_route_host (codes "hosts") body) old.hosts;
@@ -100,7 +108,8 @@ over_ok body base links before old none =
       attributes = attributes (length after.methods) (length after.hosts) (length after.headers) (length after.paths) (not_broken (fits_nothing after) (codes "paths") Required told.1);
     }
 
-pub route_ok : (body : Data) (base : BaseValue) (links : Links) → IsValidBase kind.Route base
+pub route_ok : (body : Data) (base : BaseValue) (links : Links) → HasId base → AreIds links → IsValidBase kind.Route base
     → route_faults base links (route_over body links (route_before base (stamps_of base body))) ≡ []
     → IsValidRoute (route_over body links (route_before base (stamps_of base body)))
-route_ok body base links ok none = over_ok body base links (route_before base (stamps_of base body)) (before_ok base (stamps_of base body) ok) none
+route_ok body base links is ids ok none =
+    over_ok body base links (route_before base (stamps_of base body)) ids (before_ok base (stamps_of base body) (stamps_ok kind.Route body base is ok) ok) none

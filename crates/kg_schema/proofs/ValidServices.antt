@@ -2,6 +2,7 @@
 use Rattle.std.proofs.Common.{◌≡◌, inl, inr, ℕ, ◌≤◌, ◌==◌, List, [], length, Option, Some, None, codes, refl, arith}
 use Rattle.std.specs.Prelude.{IfSome, IsTrue}
 use Rattle.serde_json.specs.Data.{Data}
+use Rattle.kg_row_types.specs.Ids.{IsId}
 use Rattle.kg_row_types.specs.ValidRows.{IsValidService}
 use Rattle.kg_row_types.specs.Words.{is_host, is_name, is_normal_path}
 use Rattle.kg_row_types.specs.declared.entity.Entity.TheVariants as row
@@ -10,12 +11,13 @@ use Rattle.kg_row_types.specs.declared.service.Service.{Service}
 use Rattle.kg_schema.proofs.ReadNumbers.{whole_ok}
 use Rattle.kg_schema.proofs.ReadTexts.{takes_accepted, takes_host, takes_name, takes_path, text_ok}
 use Rattle.kg_schema.proofs.ReadUrls.{IsAddress, url_ok}
+use Rattle.kg_schema.proofs.ValidIds.{stamps_ok}
 use Rattle.kg_schema.proofs.ValidParts.{OrEmpty, filled, neither, not_broken, or_ok, unwrapped_ok}
 use Rattle.kg_row_making.specs.Bases.{BaseValue, New, Again, Word, Old, stamps_of}
 use Rattle.kg_schema.specs.Between.{doubles_url, fault_if, service_faults}
 use Rattle.kg_schema.specs.Finished.{address_over, service_before, service_over}
 use Rattle.kg_bodies.specs.Settings.{text_at, url_at, whole_at}
-use Rattle.kg_schema.specs.ValidBases.{IsValidBase}
+use Rattle.kg_schema.specs.ValidBases.{HasId, IsValidBase}
 use Rattle.kg_row_making.specs.declared.base.Stamps.{Stamps}
 use Rattle.kg_field_rules.specs.declared.rule.Rule.TheVariants.{Exclusive, Required}
 use Rattle.kg_field_rules.specs.declared.url.Url.{Url}
@@ -38,28 +40,30 @@ AreRetries retries = (0 ≤ retries) × (retries ≤ 32767)
 
 -- what stands in a service before a body sets anything, or before all of it is set: the host may be missing
 record AreFields (service : Service) : Type 0 where
+  id : IsId service.id
   name : IfSome service.name IsName
   host : OrEmpty IsHost service.host
   port : IsPort service.port
   path : IfSome service.path IsPath
   retries : AreRetries service.retries
 
-before_ok : (base : BaseValue) (stamps : Stamps) → IsValidBase kind.Service base → AreFields (service_before base stamps)
-before_ok (New id now) stamps ok = record { name = tt; host = inr refl; port = (omega arith, omega arith); path = tt; retries = (omega arith, omega arith) }
-before_ok (Again id created_at now) stamps ok = record { name = tt; host = inr refl; port = (omega arith, omega arith); path = tt; retries = (omega arith, omega arith) }
-before_ok (Word id text now) stamps ok = record { name = takes_accepted word.Name is_name takes_name text ok; host = inr refl; port = (omega arith, omega arith); path = tt; retries = (omega arith, omega arith) }
-before_ok (Old (row.Service old) now) stamps ok =
+before_ok : (base : BaseValue) (stamps : Stamps) → IsId stamps.id → IsValidBase kind.Service base → AreFields (service_before base stamps)
+before_ok (New id now) stamps is ok = record { id = is; name = tt; host = inr refl; port = (omega arith, omega arith); path = tt; retries = (omega arith, omega arith) }
+before_ok (Again id created_at now) stamps is ok = record { id = is; name = tt; host = inr refl; port = (omega arith, omega arith); path = tt; retries = (omega arith, omega arith) }
+before_ok (Word id text now) stamps is ok = record { id = is; name = takes_accepted word.Name is_name takes_name text ok; host = inr refl; port = (omega arith, omega arith); path = tt; retries = (omega arith, omega arith) }
+before_ok (Old (row.Service old) now) stamps is ok =
     let high = ok.retries in
-    record { name = ok.name; host = inl ok.host; port = ok.port; path = ok.path; retries = (omega arith, high) }
-before_ok (Old old now) stamps ok = record { name = tt; host = inr refl; port = (omega arith, omega arith); path = tt; retries = (omega arith, omega arith) }
+    record { id = ok.id; name = ok.name; host = inl ok.host; port = ok.port; path = ok.path; retries = (omega arith, high) }
+before_ok (Old old now) stamps is ok = record { id = is; name = tt; host = inr refl; port = (omega arith, omega arith); path = tt; retries = (omega arith, omega arith) }
 
 host_ok : (o : Option (List ℕ)) → IfSome o IsHost → IfSome o (OrEmpty IsHost)
 host_ok None ok = tt
 host_ok (Some host) ok = inl ok
 
 address_ok : (url : Option Url) (body : Data) (before : Service) → IfSome url IsAddress → AreFields before → AreFields (address_over url body before)
-address_ok (Some url) body before ok old = record { name = old.name; host = inl ok.host; port = ok.port; path = ok.path; retries = old.retries }
+address_ok (Some url) body before ok old = record { id = old.id; name = old.name; host = inl ok.host; port = ok.port; path = ok.path; retries = old.retries }
 address_ok None body before ok old = record {
+  id = old.id;
   name = old.name;
   host = unwrapped_ok (OrEmpty IsHost) (text_at word.Host (codes "host") body) before.host (host_ok (text_at word.Host (codes "host") body) (text_ok word.Host is_host takes_host (codes "host") body)) old.host;
   port = unwrapped_ok IsPort (whole_at 1 65535 (codes "port") body) before.port (whole_ok 1 65535 (codes "port") body) old.port;
@@ -74,6 +78,7 @@ over_ok body before old none =
     let told = neither (fault_if (doubles_url body) (codes "url") Exclusive) (fault_if (length service.host == 0) (codes "host") Required) none in
     let retries = unwrapped_ok AreRetries (whole_at 0 32767 (codes "retries") body) service.retries (whole_ok 0 32767 (codes "retries") body) fields.retries in
     record {
+      id = fields.id;
       name = or_ok IsName (text_at word.Name (codes "name") body) service.name (text_ok word.Name is_name takes_name (codes "name") body) fields.name;
       host = filled IsHost service.host fields.host (not_broken (length service.host == 0) (codes "host") Required told.1);
       port = fields.port;
@@ -81,7 +86,8 @@ over_ok body before old none =
       retries = retries.1;
     }
 
-pub service_ok : (body : Data) (base : BaseValue) → IsValidBase kind.Service base
+pub service_ok : (body : Data) (base : BaseValue) → HasId base → IsValidBase kind.Service base
     → service_faults body (service_over body (service_before base (stamps_of base body))) ≡ []
     → IsValidService (service_over body (service_before base (stamps_of base body)))
-service_ok body base ok none = over_ok body (service_before base (stamps_of base body)) (before_ok base (stamps_of base body) ok) none
+service_ok body base is ok none =
+    over_ok body (service_before base (stamps_of base body)) (before_ok base (stamps_of base body) (stamps_ok kind.Service body base is ok) ok) none

@@ -11,6 +11,7 @@ ghost use Rattle.kg_field_rules.specs.Rules.{tell};
 ghost use Rattle.kg_bodies.specs.Violations.{Tells};
 ghost use Rattle.kg_bodies.specs.Settings.{text_at};
 ghost use Rattle.kg_schema.specs.ValidBases.{IsValidBase};
+ghost use Rattle.kg_row_types.specs.Entities.{kind_of};
 ghost use Rattle.kg_row_types.specs.ValidRows.{IsValidRow};
 
 mod consumer;
@@ -29,7 +30,7 @@ use crate::row::plugin::{old_plugin, plugin_before, set_plugin, tell_plugin};
 use crate::row::route::{route_before, set_route, tell_route};
 use crate::row::service::{service_before, set_service, tell_service};
 use crate::row::tell::tell_if;
-pub use crate::row::valid::finished_rows_are_valid;
+pub use crate::row::valid::{base_has_id, finished_rows_are_valid, links_are_ids};
 use kg_bodies::fields::named_plugin;
 use kg_bodies::form::{Form, FormError};
 use kg_bodies::settings::{id_at, text_at};
@@ -114,13 +115,14 @@ fn finish_row(
     contradicted: Option<ParentField>,
     row: &mut Entity,
 ) -> Result<(), FormError>
-    requires { row.old ≡ row_before form.now.kind (view form.now.body) (base_of base.now) }
+    requires before { row.old ≡ row_before form.now.kind (view form.now.body) (base_of base.now) }
+    requires kind { kind_of row.old ≡ form.now.kind }
     ensures row { OnOk result (row.new ≡ row_over form.now.kind (view form.now.body) (base_of base.now) links.now) }
     ensures valid { OnOk result (faults_between form.now.kind (view form.now.body) (base_of base.now) links.now contradicted ≡ []) }
     ensures violation { IfErr result (λ e. Tells e (faults_between form.now.kind (view form.now.body) (base_of base.now) links.now contradicted)) }
     ensures valid_row { IsValidBase form.now.kind (base_of base.now) → OnOk result (IsValidRow row.new) }
 {
-    set_row(alloc, form.body(), links, row)?;
+    set_row(alloc, form, links, row)?;
     judge_row(alloc, form, base, links, contradicted, row)
 }
 
@@ -140,6 +142,8 @@ fn judge_row(
     ensures valid_row { IsValidBase form.now.kind (base_of base.now) → OnOk result (IsValidRow row.now) }
 {
     finished_rows_are_valid();
+    base_has_id(base);
+    links_are_ids(links);
     let faults = faults_between(alloc, form, base, links, contradicted, row)?;
     if faults.is_empty() {
         return Ok(());
@@ -149,7 +153,8 @@ fn judge_row(
 
 // The row as it stands before the body sets anything.
 fn row_before(alloc: Global, kind: Kind, body: &Value, base: &Base<'_>) -> Result<Entity, NoMemory>
-    ensures { IfOk result (λ row. row ≡ row_before kind (view body.now) (base_of base.now)) }
+    ensures before { IfOk result (λ row. row ≡ row_before kind (view body.now) (base_of base.now)) }
+    ensures kind { IfOk result (λ row. kind_of row ≡ kind) }
 {
     let stamps = base.stamps(body);
     match kind {
@@ -163,17 +168,18 @@ fn row_before(alloc: Global, kind: Kind, body: &Value, base: &Base<'_>) -> Resul
     }
 }
 
-fn set_row(alloc: Global, body: &Value, links: &Links, row: &mut Entity) -> Result<(), NoMemory>
-    ensures { OnOk result (row.new ≡ with_set (view body.now) links.now row.old) }
+fn set_row(alloc: Global, form: &Form, links: &Links, row: &mut Entity) -> Result<(), NoMemory>
+    requires { kind_of row.old ≡ form.now.kind }
+    ensures { OnOk result (row.new ≡ with_set (view form.now.body) links.now row.old) }
 {
     match row {
-        Entity::Service(row) => set_service(alloc, body, row),
-        Entity::Route(row) => set_route(alloc, body, links, row),
-        Entity::Consumer(row) => set_consumer(alloc, body, row),
-        Entity::KeyCred(row) => set_key(alloc, body, links, row),
-        Entity::BasicCred(row) => set_basic(alloc, body, links, row),
-        Entity::Acl(row) => set_acl(alloc, body, links, row),
-        Entity::Plugin(row) => set_plugin(alloc, body, links, row),
+        Entity::Service(row) => set_service(alloc, form.body(), row),
+        Entity::Route(row) => set_route(alloc, form.body(), links, row),
+        Entity::Consumer(row) => set_consumer(alloc, form.body(), row),
+        Entity::KeyCred(row) => set_key(alloc, form.body(), links, row),
+        Entity::BasicCred(row) => set_basic(alloc, form.body(), links, row),
+        Entity::Acl(row) => set_acl(alloc, form.body(), links, row),
+        Entity::Plugin(row) => set_plugin(alloc, form.body(), links, row),
     }
 }
 

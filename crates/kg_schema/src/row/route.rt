@@ -1,15 +1,17 @@
 //! The routes that bodies make.
 
-ghost use Rattle.std.specs.Prelude.{◌≡◌, IfOk, OnOk, fold};
+ghost use Rattle.std.specs.Prelude.{◌≡◌, [], IfOk, OnOk, fold};
 ghost use Rattle.serde_json.specs.View.{view};
 ghost use Rattle.kg_row_making.specs.Bases.{base_of};
 ghost use Rattle.kg_schema.specs.Between.{fits_nothing, route_faults};
 ghost use Rattle.kg_schema.specs.Finished.{route_before, route_over};
 ghost use Rattle.kg_field_rules.specs.Rules.{tell};
+ghost use Rattle.kg_field_tables.specs.BrokenRules.{field_faults};
+ghost use Rattle.kg_row_types.specs.declared.entity.Kind.TheVariants as kind;
 
 use crate::row::tell::{is_missing, tell_if};
 use kg_bodies::header_tests::tests_at;
-use kg_bodies::settings::{flag_at, https_at, integer_at, text_at, texts_at};
+use kg_bodies::settings::{flag_at, https_at, integer_at, paths_at, text_at, texts_at};
 use kg_field_rules::fault::Faults;
 use kg_field_rules::rule::Rule;
 use kg_field_rules::word::Word;
@@ -55,6 +57,7 @@ pub fn set_route(
     links: &Links,
     row: &mut Route,
 ) -> Result<(), NoMemory>
+    requires { field_faults kind.Route (view body.now) ≡ [] }
     ensures { OnOk result (row.new ≡ route_over (view body.now) links.now row.old) }
 {
     set_option(&mut row.name, text_at(alloc, Word::Name, "name", body)?);
@@ -68,10 +71,7 @@ pub fn set_route(
         &mut row.hosts,
         texts_at(alloc, Word::RouteHost, "hosts", body)?,
     );
-    set_list(
-        &mut row.paths,
-        texts_at(alloc, Word::RoutePath, "paths", body)?,
-    );
+    set_list(&mut row.paths, paths_at(alloc, body)?);
     set_list(&mut row.headers, tests_at(alloc, body)?);
     set(
         &mut row.regex_priority,
