@@ -1,5 +1,5 @@
 -- The keys that differ among the candidates are the keys that a command changes.
-use Rattle.std.proofs.Common.{◌≡◌, true, false, ◌||◌, List, [], ◌∷◌, map, All, Contains, refl, sym, ap, subst, ◌∙◌, true≢false, arith}
+use Rattle.std.proofs.Common.{◌≡◌, ◌⊎◌, inl, inr, ⊎_elim, true, false, ◌||◌, List, [], ◌∷◌, map, All, Contains, refl, sym, ap, subst, ◌∙◌, true≢false, arith}
 use Rattle.std.proofs.lemmas.Bool.{eqb-true}
 use Rattle.std.proofs.lemmas.List.Elements.{All-contains, All-nil, All-cons, Contains-get_or, Contains-append_right}
 use Rattle.std.specs.List.{list_any}
@@ -49,17 +49,20 @@ module _ (before : RowLists) where
       → NamesChangedKeys before (changed command before) keys
   names_changed command keys differ =
       let all = candidates command before in
+      let told : (k : Key) → Contains keys k ⊎ (value_of before k ≡ value_of (changed command before) k) = λ k.
+      (elim (list_any (same_key k) all) as (λ b. list_any (same_key k) all ≡ b → Contains keys k ⊎ (value_of before k ≡ value_of (changed command before) k)) [
+        | true ↦ λ among. ⊎_elim (λ same. inr (sym same)) (λ there. inl there)
+            (All-contains (Whole (changed command before) keys) (map (watched_at before) all) (watched_at before k) differ.whole (is_watched k all among))
+        | false ↦ λ none. inr (sym (kept k command before none))
+      ]) refl in
       record {
         each = λ k. (
           (λ there same.
               let found = All-contains (Sound (changed command before) (map (watched_at before) all)) keys k differ.sound there in
               let was : found.0.before ≡ value_of before k = All-contains Before (map (watched_at before) all) found.0 (all_before all) found.1 ∙ ap (value_of before) found.2 in
               found.3 (sym same ∙ sym was)),
-          λ differs.
-              (elim (list_any (same_key k) all) as (λ b. list_any (same_key k) all ≡ b → Contains keys k) [
-                | true ↦ λ among. All-contains (Whole (changed command before) keys) (map (watched_at before) all) (watched_at before k) differ.whole (is_watched k all among) (λ same. differs (sym same))
-                | false ↦ λ none. absurd (differs (sym (kept k command before none)))
-              ]) refl,
+          λ differs. ⊎_elim (λ there. there) (λ same. absurd (differs same)) (told k),
         );
+        others = told;
         distinct = differ.distinct;
       }

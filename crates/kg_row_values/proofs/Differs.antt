@@ -17,9 +17,9 @@ module _ (now : RowLists) where
   abbrev pub Sound : List Watched → Key → Type 0
   Sound watched k = (w : Watched) × Contains watched w × (w.key ≡ k) × (value_of now k ≢ w.before)
 
-  -- a watched key that differs is kept
+  -- a watched key has the value that it had, or is kept
   abbrev pub Whole : List Key → Watched → Type 0
-  Whole keys w = value_of now w.key ≢ w.before → Contains keys w.key
+  Whole keys w = (value_of now w.key ≡ w.before) ⊎ Contains keys w.key
 
   -- what was sound stays so
   further : (watched : List Watched) (w : Watched) (keys : List Key) → All (Sound watched) keys → All (Sound (watched ++ w ∷ [])) keys
@@ -40,7 +40,7 @@ module _ (now : RowLists) where
       record {
         sound = subst (λ ks. All (Sound (watched ++ w ∷ [])) ks) (sym kept.0) (further watched w keys differ.sound);
         whole = subst (λ ks. All (Whole ks) (watched ++ w ∷ [])) (sym kept.0)
-            (All-push (Whole keys) watched w differ.whole (λ differs. ⊎_elim (λ same. absurd (differs same)) (λ there. there) kept.1));
+            (All-push (Whole keys) watched w differ.whole kept.1);
         distinct = subst (AllPairs (λ a b. a ≢ b)) (sym kept.0) differ.distinct;
       }
   differ_more watched w keys next differ (inr added) =
@@ -49,8 +49,8 @@ module _ (now : RowLists) where
             (All-push (Sound (watched ++ w ∷ [])) keys w.key (further watched w keys differ.sound) (w, Contains-push watched w, refl, added.1));
         whole = subst (λ ks. All (Whole ks) (watched ++ w ∷ [])) (sym added.0)
             (All-push (Whole (keys ++ w.key ∷ [])) watched w
-            (All-weaker (Whole keys) (Whole (keys ++ w.key ∷ [])) (λ v there differs. Contains-append_left keys (w.key ∷ []) v.key (there differs)) watched differ.whole)
-            (λ _. Contains-push keys w.key));
+            (All-weaker (Whole keys) (Whole (keys ++ w.key ∷ [])) (λ v. ⊎_elim (λ same. inl same) (λ there. inr (Contains-append_left keys (w.key ∷ []) v.key there))) watched differ.whole)
+            (inr (Contains-push keys w.key)));
         distinct = subst (AllPairs (λ a b. a ≢ b)) (sym added.0)
             (all_pairs_push (λ a b. a ≢ b) keys w.key differ.distinct (λ k d within same. added.2 (subst (Contains keys) same (Contains-get_or keys k d within))));
       }

@@ -1,26 +1,27 @@
 -- The groups of a consumer, told by what each list has of the other.
-use Rattle.std.proofs.Common.{◌≡◌, ℕ, Bool, true, false, cond, not, ◌||◌, ◌&&◌, ◌==◌, List, [], ◌∷◌, map, filter, All, refl, sym, ap, ◌∙◌, is_eq, nat_cmp}
-use Rattle.std.proofs.lemmas.Cmp.{nat_list_cmp_total}
+use Rattle.std.proofs.Common.{Contains, ◌↔◌, ◌≡◌, ℕ, Bool, true, false, cond, not, ◌||◌, ◌&&◌, ◌==◌, List, [], ◌∷◌, map, filter, All, refl, sym, ap, ◌∙◌, is_eq, nat_cmp}
+use Rattle.std.proofs.lemmas.Cmp.{eq_by_cmp_equiv, nat_list_cmp_total}
 use Rattle.std.proofs.lemmas.List.Elements.{All-nil, All-cons}
 use Rattle.std.proofs.lemmas.Map.Lookups.{exact_bytes}
 use Rattle.std.proofs.lemmas.Map.Text.{is_eq-slice_cmp}
+use Rattle.std.proofs.lemmas.Map.Views.{Contains-from_any, list_any-from_Contains, tells_apart}
 use Rattle.std.specs.Cmp.Lexicographic.{slice_cmp}
-use Rattle.std.specs.List.{list_any, list_all}
-use Rattle.std.specs.List.Sorted.{IsStrictlySortedBy}
+use Rattle.std.specs.BTreeSet.{insert_key}
+use Rattle.std.specs.List.{fold, list_any, list_all}
 use Rattle.std.specs.Str.{bytes_eq}
 use Rattle.kg_row_types.specs.RowLists.{RowLists}
 use Rattle.kg_row_types.specs.ValidRows.{same_membership}
 use Rattle.kg_row_types.specs.declared.consumer.AclRow.{AclRow}
 use Rattle.kg_row_types.specs.declared.key.Key.{Key}
 use Rattle.kg_row_types.specs.declared.key.Key.TheVariants.{Cred, Basic, Consumer, Named, Acls}
-use Rattle.kg_row_values.specs.ByteOrder.{IsInByteOrder}
+use Rattle.kg_row_values.specs.ByteOrder.{IsInByteOrder, in_byte_order}
 use Rattle.kg_row_values.specs.Values.{groups_of, value_of}
 use Rattle.kg_row_values.specs.Watching.{IsOrderly, watched_at}
 use Rattle.kg_row_values.specs.declared.watch.Watched.{Watched}
-use Rattle.kg_row_values.proofs.SetLemmas.{both, sorted_fold, has_fold, same_sorted, included, includes_itself}
+use Rattle.kg_row_values.proofs.SetLemmas.{both, fold_is_order, has_order, sorted_order, same_sorted, included, includes_itself}
 
 -- the groups of a consumer's rows
-abbrev groups_in : ℕ → List AclRow → List (List ℕ)
+abbrev pub groups_in : ℕ → List AclRow → List (List ℕ)
 groups_in consumer acls = map (λ row. row.group) (filter (λ row. row.consumer == consumer) acls)
 
 -- the text is one of them, by the order of bytes
@@ -52,6 +53,20 @@ any_rows p consumer (a ∷ acls) =
     ≡ list_any p (map (λ row. row.group) (cond {A = List AclRow} b (a ∷ filter (λ row. row.consumer == consumer) acls) (filter (λ row. row.consumer == consumer) acls))))
     [ true ↦ ap (λ b. p a.group || b) (any_rows p consumer acls) | false ↦ any_rows p consumer acls ])
 
+-- texts that are put in one after another stand in byte order
+pub bytes_in_order : (texts : List (List ℕ)) → fold (insert_key (slice_cmp nat_cmp)) [] texts ≡ in_byte_order texts
+bytes_in_order texts = fold_is_order nat_list_cmp_total exact_bytes texts
+
+pub ordered_texts : (texts : List (List ℕ)) → IsInByteOrder (in_byte_order texts)
+ordered_texts texts = sorted_order nat_list_cmp_total exact_bytes texts
+
+pub contains_texts : (texts : List (List ℕ)) (text : List ℕ) → Contains (in_byte_order texts) text ↔ Contains texts text
+contains_texts texts text =
+    let same = has_order nat_list_cmp_total exact_bytes text texts in (
+      (λ there. Contains-from_any (tells_apart exact_bytes) text texts (sym same ∙ list_any-from_Contains (eq_by_cmp_equiv nat_list_cmp_total) text (in_byte_order texts) there)),
+      (λ there. Contains-from_any (tells_apart exact_bytes) text (in_byte_order texts) (same ∙ list_any-from_Contains (eq_by_cmp_equiv nat_list_cmp_total) text texts there)),
+    )
+
 module _ (consumer : ℕ) (acls : List AclRow) (groups : List (List ℕ)) where
   -- each group of the consumer is among them
   abbrev pub among : Bool
@@ -71,13 +86,12 @@ module _ (consumer : ℕ) (acls : List AclRow) (groups : List (List ℕ)) where
 
   -- a text is in the set exactly where it is a group
   in_set : (t : List ℕ) → has t (groups_of consumer acls) ≡ has t (groups_in consumer acls)
-  in_set t = has_fold nat_list_cmp_total exact_bytes t (groups_in consumer acls) []
+  in_set t = has_order nat_list_cmp_total exact_bytes t (groups_in consumer acls)
 
   pub groups_same : IsInByteOrder groups → among ≡ true → each ≡ true → groups_of consumer acls ≡ groups
-  unfolding IsStrictlySortedBy
   groups_same sorted one other =
       same_sorted nat_list_cmp_total exact_bytes (groups_of consumer acls) groups
-      (sorted_fold nat_list_cmp_total exact_bytes (groups_in consumer acls) [] (tt {0})) sorted
+      (sorted_order nat_list_cmp_total exact_bytes (groups_in consumer acls)) sorted
       (λ t. in_set t ∙ both (has t (groups_in consumer acls)) (has t groups)
       (included nat_list_cmp_total exact_bytes (groups_in consumer acls) groups (sym among_is ∙ one) t)
       (included nat_list_cmp_total exact_bytes groups (groups_in consumer acls) (sym each_is ∙ other) t))
@@ -94,8 +108,7 @@ module _ (consumer : ℕ) (acls : List AclRow) (groups : List (List ℕ)) where
 
 -- the groups of a consumer stand in byte order
 pub groups_ordered : (consumer : ℕ) (acls : List AclRow) → IsInByteOrder (groups_of consumer acls)
-unfolding IsStrictlySortedBy
-groups_ordered consumer acls = sorted_fold nat_list_cmp_total exact_bytes (groups_in consumer acls) [] (tt {0})
+groups_ordered consumer acls = sorted_order nat_list_cmp_total exact_bytes (groups_in consumer acls)
 
 any_same : {X : Type 0} (p q : X → Bool) → ((x : X) → p x ≡ q x) → (xs : List X) → list_any p xs ≡ list_any q xs
 any_same p q same [] = refl

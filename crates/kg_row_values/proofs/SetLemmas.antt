@@ -5,6 +5,7 @@ use Rattle.std.specs.Cmp.{IsTotalOrder}
 use Rattle.std.specs.List.{fold, list_any, list_all, AllByRecursion}
 use Rattle.std.specs.List.Sorted.{IsStrictlySortedBy}
 use Rattle.std.specs.Ordering.{match_ordering, ordering_reverse}
+use Rattle.kg_row_values.specs.InOrder.{in_order}
 
 -- ---- or
 
@@ -151,6 +152,24 @@ module _ {K : Type 0} {R : K → K → Ordering} (o : IsTotalOrder R) (exact : (
       by Greater is rest =
           let there : has y xs ≡ true = ap (λ r. is_eq r || has y xs) (sym (turned x y is)) ∙ same y ∙ ap (λ r. is_eq r || has y ys) (itself y) in
           absurd (less≢greater (sym (above x y xs sorted_x.0 there) ∙ is))
+
+  -- ---- keys in order
+
+  pub sorted_order : (xs : List K) → Sorted (in_order R xs)
+  unfolding IsStrictlySortedBy
+  sorted_order [] = tt {0}
+  sorted_order (x ∷ xs) = sorted_insert x (in_order R xs) (sorted_order xs)
+
+  pub has_order : (t : K) (xs : List K) → has t (in_order R xs) ≡ has t xs
+  has_order t [] = refl
+  has_order t (x ∷ xs) = has_insert t x (in_order R xs) ∙ ap (λ b. is_eq (R t x) || b) (has_order t xs)
+
+  -- keys that are put in one after another stand in order
+  pub fold_is_order : (xs : List K) → fold (insert_key R) [] xs ≡ in_order R xs
+  unfolding IsStrictlySortedBy
+  fold_is_order xs =
+      same_sorted (fold (insert_key R) [] xs) (in_order R xs) (sorted_fold xs [] (tt {0})) (sorted_order xs)
+      (λ t. has_fold t xs [] ∙ sym (has_order t xs))
 
   -- ---- inclusion
 

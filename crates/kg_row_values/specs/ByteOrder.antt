@@ -1,13 +1,13 @@
 -- Sets of texts, in byte order.
-use Rattle.std.specs.Prelude.{ℕ, List, [], fold}
-use Rattle.std.specs.BTreeSet.{insert_key}
+use Rattle.std.specs.Prelude.{ℕ, List}
 use Rattle.std.specs.Cmp.Lexicographic.{slice_cmp}
 use Rattle.std.specs.List.Sorted.{IsStrictlySortedBy}
 use Rattle.std.specs.Ordering.{nat_cmp}
+use Rattle.kg_row_values.specs.InOrder.{in_order}
 
--- the texts in byte order, each once: one text after another is put in its place, unless it is there
+-- the texts in byte order, each once
 abbrev pub in_byte_order : List (List ℕ) → List (List ℕ)
-in_byte_order texts = fold (insert_key (slice_cmp nat_cmp)) [] texts
+in_byte_order texts = in_order (slice_cmp nat_cmp) texts
 
 -- they stand in byte order, each once
 abbrev pub IsInByteOrder : List (List ℕ) → Type 0

@@ -1,5 +1,5 @@
 -- Which keys and generations a change of the rows changes.
-use Rattle.std.specs.Prelude.{◌≢◌, ◌↔◌, ℕ, ◌-◌, List, take, Contains}
+use Rattle.std.specs.Prelude.{◌≡◌, ◌≢◌, ◌↔◌, ◌⊎◌, ℕ, ◌-◌, List, take, Contains}
 use Rattle.std.specs.List.{AllPairs}
 use Rattle.kg_row_types.specs.RowLists.{RowLists}
 use Rattle.kg_row_types.specs.declared.key.GenKey.{GenKey}
@@ -16,9 +16,10 @@ Changes history i k = value_at k (take (i - 1) history) ≢ value_at k (take i h
 abbrev pub ChangesGeneration : List Command → ℕ → GenKey → Type 0
 ChangesGeneration history i g = generation_at g (take (i - 1) history) ≢ generation_at g (take i history)
 
--- the keys are those whose value differs, each once
+-- the keys are those whose value differs, each once; each other key keeps its value
 pub record NamesChangedKeys (before after : RowLists) (keys : List Key) : Type 0 where
   pub each : (k : Key) → Contains keys k ↔ (value_of before k ≢ value_of after k)
+  pub others : (k : Key) → Contains keys k ⊎ (value_of before k ≡ value_of after k)
   pub distinct : AllPairs (λ a b. a ≢ b) keys
 
 -- the generations are those that differ, each once

@@ -1,4 +1,4 @@
--- Keys with their values before a change, and which of them differ after it.
+-- Machinery for proofs: keys with their values before a change, and which of them differ after it.
 use Rattle.std.specs.Prelude.{◌≡◌, ◌≢◌, ◌⊎◌, List, [], ◌∷◌, ◌++◌, All, Contains, ⊤}
 use Rattle.std.specs.List.{AllPairs}
 use Rattle.kg_row_types.specs.RowLists.{RowLists}
@@ -27,5 +27,5 @@ Noted now w before after =
 -- the keys are those of the watched whose value differs, each once
 pub record Differ (now : RowLists) (watched : List Watched) (keys : List Key) : Type 0 where
   pub sound : All (λ k. (w : Watched) × Contains watched w × (w.key ≡ k) × (value_of now k ≢ w.before)) keys
-  pub whole : All (λ (w : Watched). value_of now w.key ≢ w.before → Contains keys w.key) watched
+  pub whole : All (λ (w : Watched). (value_of now w.key ≡ w.before) ⊎ Contains keys w.key) watched
   pub distinct : AllPairs (λ a b. a ≢ b) keys

@@ -3,6 +3,7 @@
 
 pub mod command;
 pub mod generations;
+pub mod laws;
 pub mod same;
 pub mod touched;
 pub mod value;

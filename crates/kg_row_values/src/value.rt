@@ -1,6 +1,9 @@
 //! The values of keys.
 
-ghost use Rattle.std.specs.Prelude.{◌≡◌, ◌==◌, ◌&&◌, ◌||◌, not, ◌↔◌, IsTrue, IfOk, find};
+ghost use Rattle.std.specs.Prelude.{◌≡◌, ◌==◌, ◌&&◌, ◌||◌, [], not, ◌↔◌, IsTrue, IfOk, filter, find, fold, map};
+ghost use Rattle.std.specs.BTreeSet.{insert_key};
+ghost use Rattle.std.specs.Cmp.Lexicographic.{slice_cmp};
+ghost use Rattle.std.specs.Ordering.{nat_cmp};
 ghost use Rattle.std.specs.Option.{option_copied};
 ghost use Rattle.std.specs.List.{list_all, list_any};
 ghost use Rattle.std.specs.Str.{bytes_eq};
@@ -51,13 +54,20 @@ fn consumer_groups(alloc: Global, rows: &Rows, consumer: Id) -> Result<List<Text
 fn groups_of(alloc: Global, acls: &[AclRow], consumer: Id) -> Result<List<Text>, NoMemory>
     ensures { IfOk result (λ groups. groups ≡ groups_of consumer acls.now) }
 {
+    let groups = group_set(alloc, acls, consumer)?;
+    listed(alloc, groups)
+}
+
+fn group_set(alloc: Global, acls: &[AclRow], consumer: Id) -> Result<BTreeSet<Text>, NoMemory>
+    ensures { IfOk result (λ set. set.keys ≡ fold (insert_key (slice_cmp nat_cmp)) [] (map (λ row. row.group) (filter (λ row. row.consumer == consumer) acls.now))) }
+{
     let mut groups = BTreeSet::new(alloc);
     for row in acls {
         if row.consumer == consumer {
             groups.insert(row.group.try_clone(alloc)?)?;
         }
     }
-    listed(alloc, groups)
+    Ok(groups)
 }
 
 fn listed(alloc: Global, groups: BTreeSet<Text>) -> Result<List<Text>, NoMemory>
