@@ -1,14 +1,14 @@
 -- Rows of which no two share something, when one is added, taken out or replaced.
-use Rattle.std.proofs.Common.{◌≡◌, ℕ, ◌==◌, nat_eq, Bool, true, false, cond, not, ◌&&◌, ◌||◌, List, [], ◌∷◌, ◌++◌, map, filter, Option, Some, None, refl, sym, ap, ap₂, subst, ◌∙◌, true≢false}
+use Rattle.std.proofs.Common.{◌≡◌, ℕ, ◌==◌, nat_eq, Bool, true, false, cond, not, ◌&&◌, ◌||◌, List, [], ◌∷◌, ◌++◌, map, filter, find, Option, Some, None, option_map, refl, sym, ap, ap₂, subst, ◌∙◌, true≢false}
 use Rattle.std.proofs.lemmas.Bool.Decides.{Decides-eqb, same_from_decides}
 use Rattle.std.proofs.lemmas.Bool.{eqb-true}
 use Rattle.std.proofs.lemmas.Slice.Eq.{bytes_eq-Decides}
 use Rattle.std.specs.List.{AllByRecursion, IsDistinct, cons_option, filter_map, list_any}
-use Rattle.std.specs.Option.{option_map_or}
+use Rattle.std.specs.Option.{is_some, option_map_or}
 use Rattle.std.specs.Str.{bytes_eq}
 use Rattle.kg_row_types.specs.Tables.{replaced}
 use Rattle.kg_row_values.proofs.Searches.{or_left, or_right}
-use Rattle.kg_row_changes.specs.Allowed.{is_free, is_taken}
+use Rattle.kg_row_changes.specs.Claims.{holder, text_holder}
 
 -- ---- tests
 
@@ -225,23 +225,35 @@ module _ {X : Type 0} (number : X → ℕ) where
           | false ↦ λ _ differs. (each_replaced (λ y. e x y ≡ false) (has_number (number new)) new differs xs distinct.0, alone_replaced new xs ids.1 later distinct.1)
         ]) refl first
 
+  -- ---- what no other row holds
+
+  -- where no other row is found that passes, none passes
+  unheld : (new : X) (test : X → Bool) (xs : List X) → holder number (Some (number new)) test xs ≡ None → list_any (λ x. not (number x == number new) && test x) xs ≡ false
+  unheld new test [] none = refl
+  unheld new test (x ∷ xs) none =
+      (elim (not (number x == number new) && test x) as (λ b. option_map number (cond {A = Option X} b (Some x) (find (λ y. not (number y == number new) && test y) xs)) ≡ None
+      → (b || list_any (λ y. not (number y == number new) && test y) xs) ≡ false) [
+        | true ↦ λ wrong. absurd (true≢false (ap is_some wrong))
+        | false ↦ λ rest. unheld new test xs rest
+      ]) none
+
   -- ---- a text that a row may have
 
   module _ (field : X → Option (List ℕ)) where
-    alone_text : (new : X) (set : Option (List ℕ)) → field new ≡ set → (xs : List X) → is_free number field (number new) set xs ≡ true → AloneAmong (by_set bytes_eq field) new xs
+    alone_text : (new : X) (set : Option (List ℕ)) → field new ≡ set → (xs : List X) → text_holder number field (Some (number new)) set xs ≡ None → AloneAmong (by_set bytes_eq field) new xs
     alone_text new None is xs free =
         ap (λ o. list_any (λ x. not (number x == number new) && both_alike bytes_eq (field x) o) xs) is ∙ nothing_passes (λ x. not (number x == number new)) xs
     alone_text new (Some text) is xs free =
         ap (λ o. list_any (λ x. not (number x == number new) && both_alike bytes_eq (field x) o) xs) is
-        ∙ untrue (is_taken number (number new) (λ other. option_map_or (λ x. bytes_eq x text) (field other) false) xs) free
+        ∙ unheld new (λ other. option_map_or (λ x. bytes_eq x text) (field other) false) xs free
 
-    pub text_push : (new : X) (xs : List X) → list_any (has_number (number new)) xs ≡ false → is_free number field (number new) (field new) xs ≡ true
+    pub text_push : (new : X) (xs : List X) → list_any (has_number (number new)) xs ≡ false → text_holder number field (Some (number new)) (field new) xs ≡ None
         → IsDistinct bytes_eq (filter_map field xs) → IsDistinct bytes_eq (filter_map field (xs ++ new ∷ []))
     text_push new xs fresh free distinct =
         to_filter_map bytes_eq field (xs ++ new ∷ []) (alone_push (by_set bytes_eq field) (λ a b. text_flips (field a) (field b)) new xs fresh
         (alone_text new (field new) refl xs free) (from_filter_map bytes_eq field xs distinct))
 
-    pub text_replaced : (new : X) (xs : List X) → IsDistinct nat_eq (map number xs) → is_free number field (number new) (field new) xs ≡ true
+    pub text_replaced : (new : X) (xs : List X) → IsDistinct nat_eq (map number xs) → text_holder number field (Some (number new)) (field new) xs ≡ None
         → IsDistinct bytes_eq (filter_map field xs) → IsDistinct bytes_eq (filter_map field (replaced (has_number (number new)) new xs))
     text_replaced new xs ids free distinct =
         to_filter_map bytes_eq field (replaced (has_number (number new)) new xs) (alone_replaced (by_set bytes_eq field) (λ a b. text_flips (field a) (field b)) new xs ids
@@ -255,19 +267,19 @@ module _ {X : Type 0} (number : X → ℕ) where
 
   module _ (field : X → List ℕ) where
     abbrev IsKeyFree : X → List X → Type 0
-    IsKeyFree new xs = not (is_taken number (number new) (λ other. bytes_eq (field other) (field new)) xs) ≡ true
+    IsKeyFree new xs = holder number (Some (number new)) (λ other. bytes_eq (field other) (field new)) xs ≡ None
 
     pub key_push : (new : X) (xs : List X) → list_any (has_number (number new)) xs ≡ false → IsKeyFree new xs
         → IsDistinct bytes_eq (map field xs) → IsDistinct bytes_eq (map field (xs ++ new ∷ []))
     key_push new xs fresh free distinct =
         to_map bytes_eq field (xs ++ new ∷ []) (alone_push (by_part bytes_eq field) (λ a b. bytes_flip (field a) (field b)) new xs fresh
-        (untrue _ free) (from_map bytes_eq field xs distinct))
+        (unheld new (λ other. bytes_eq (field other) (field new)) xs free) (from_map bytes_eq field xs distinct))
 
     pub key_replaced : (new : X) (xs : List X) → IsDistinct nat_eq (map number xs) → IsKeyFree new xs
         → IsDistinct bytes_eq (map field xs) → IsDistinct bytes_eq (map field (replaced (has_number (number new)) new xs))
     key_replaced new xs ids free distinct =
         to_map bytes_eq field (replaced (has_number (number new)) new xs) (alone_replaced (by_part bytes_eq field) (λ a b. bytes_flip (field a) (field b)) new xs ids
-        (untrue _ free) (from_map bytes_eq field xs distinct))
+        (unheld new (λ other. bytes_eq (field other) (field new)) xs free) (from_map bytes_eq field xs distinct))
 
     pub key_filter : (p : X → Bool) (xs : List X) → IsDistinct bytes_eq (map field xs) → IsDistinct bytes_eq (map field (filter p xs))
     key_filter p xs distinct =
@@ -276,9 +288,9 @@ module _ {X : Type 0} (number : X → ℕ) where
   -- ---- rows that are unlike one another
 
   pub whole_push : (e : X → X → Bool) (flips : (a b : X) → e a b ≡ e b a) (new : X) (xs : List X) → list_any (has_number (number new)) xs ≡ false
-      → not (is_taken number (number new) (λ other. e other new) xs) ≡ true → IsDistinct e xs → IsDistinct e (xs ++ new ∷ [])
-  whole_push e flips new xs fresh free distinct = alone_push e flips new xs fresh (untrue _ free) distinct
+      → holder number (Some (number new)) (λ other. e other new) xs ≡ None → IsDistinct e xs → IsDistinct e (xs ++ new ∷ [])
+  whole_push e flips new xs fresh free distinct = alone_push e flips new xs fresh (unheld new (λ other. e other new) xs free) distinct
 
   pub whole_replaced : (e : X → X → Bool) (flips : (a b : X) → e a b ≡ e b a) (new : X) (xs : List X) → IsDistinct nat_eq (map number xs)
-      → not (is_taken number (number new) (λ other. e other new) xs) ≡ true → IsDistinct e xs → IsDistinct e (replaced (has_number (number new)) new xs)
-  whole_replaced e flips new xs ids free distinct = alone_replaced e flips new xs ids (untrue _ free) distinct
+      → holder number (Some (number new)) (λ other. e other new) xs ≡ None → IsDistinct e xs → IsDistinct e (replaced (has_number (number new)) new xs)
+  whole_replaced e flips new xs ids free distinct = alone_replaced e flips new xs ids (unheld new (λ other. e other new) xs free) distinct

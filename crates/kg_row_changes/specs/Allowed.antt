@@ -1,18 +1,16 @@
 -- Which commands are allowed at given rows.
-use Rattle.std.specs.Prelude.{ℕ, Bool, true, not, ◌&&◌, ◌==◌, nat_lt, List, Option}
+use Rattle.std.specs.Prelude.{ℕ, Bool, true, not, ◌&&◌, ◌==◌, nat_lt, Option, Some, is_none}
 use Rattle.std.specs.List.{list_any}
 use Rattle.std.specs.Option.{option_map_or}
-use Rattle.std.specs.Str.{bytes_eq}
 use Rattle.kg_row_types.specs.Entities.{kind_of, id_of_row}
-use Rattle.kg_row_types.specs.Lookups.{is_text}
 use Rattle.kg_row_types.specs.RowChanges.{has_row, count_of}
 use Rattle.kg_row_types.specs.RowLists.{RowLists}
-use Rattle.kg_row_types.specs.ValidRows.{same_membership, same_place}
 use Rattle.kg_row_types.specs.declared.entity.Entity.{Entity}
 use Rattle.kg_row_types.specs.declared.entity.Entity.TheVariants as row
 use Rattle.kg_row_types.specs.declared.entity.Kind.{Kind}
 use Rattle.kg_row_types.specs.declared.entity.Kind.TheVariants as kind
 use Rattle.kg_row_types.specs.declared.plugin.Scope.{Scope}
+use Rattle.kg_row_changes.specs.Claims.{claimed}
 use Rattle.kg_row_values.specs.declared.command.Command.{Command}
 use Rattle.kg_row_values.specs.declared.command.Command.TheVariants.{Insert, Update, Delete}
 
@@ -38,25 +36,9 @@ has_named_rows (row.Plugin plugin) rows = has_scope plugin.scope rows
 
 -- ---- unique fields
 
--- a row of another id passes the test
-abbrev pub is_taken : {X : Type 0} → (X → ℕ) → ℕ → (X → Bool) → List X → Bool
-is_taken number id test rows = list_any (λ other. not (number other == id) && test other) rows
-
--- the text, if one is set, stands in this field of no row of another id
-abbrev pub is_free : {X : Type 0} → (X → ℕ) → (X → Option (List ℕ)) → ℕ → Option (List ℕ) → List X → Bool
-is_free number field id set rows = option_map_or (λ text. not (is_taken number id (λ other. is_text text (field other)) rows)) set true
-
 -- no row of another id has what only one may have
 abbrev pub is_unique : Entity → RowLists → Bool
-is_unique (row.Service service) rows = is_free (λ other. other.id) (λ other. other.name) service.id service.name rows.services
-is_unique (row.Route route) rows = is_free (λ other. other.id) (λ other. other.name) route.id route.name rows.routes
-is_unique (row.Consumer consumer) rows =
-    is_free (λ other. other.id) (λ other. other.username) consumer.id consumer.username rows.consumers
-    && is_free (λ other. other.id) (λ other. other.custom_id) consumer.id consumer.custom_id rows.consumers
-is_unique (row.KeyCred cred) rows = not (is_taken (λ other. other.id) cred.id (λ other. bytes_eq other.key cred.key) rows.key_creds)
-is_unique (row.BasicCred cred) rows = not (is_taken (λ other. other.id) cred.id (λ other. bytes_eq other.username cred.username) rows.basic_creds)
-is_unique (row.Acl membership) rows = not (is_taken (λ other. other.id) membership.id (λ other. same_membership other membership) rows.acls)
-is_unique (row.Plugin plugin) rows = not (is_taken (λ other. other.id) plugin.id (λ other. same_place other plugin) rows.plugins)
+is_unique new rows = is_none (claimed new (Some (id_of_row new)) rows)
 
 -- ---- commands
 

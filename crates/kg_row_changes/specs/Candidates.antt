@@ -1,4 +1,4 @@
--- Keys whose values a command may change: more than those that it does, and with repeats.
+-- Machinery for proofs: keys whose values a command may change, more than those that it does, with repeats.
 use Rattle.std.specs.Prelude.{ℕ, ◌==◌, List, [], ◌∷◌, ◌++◌, filter, Option, Some, None}
 use Rattle.std.specs.List.{flat_map}
 use Rattle.kg_row_types.specs.Entities.{kind_of, id_of_row}

@@ -1,7 +1,7 @@
 -- What only one row may have, and which other row has it: the id of each kind, the names of services
 -- and routes, usernames and custom ids, keys, a group of a consumer, a plugin in a scope (Kong Admin API,
 -- unique constraints). Disabled rows count.
-use Rattle.std.specs.Prelude.{ℕ, Bool, true, not, ◌&&◌, ◌==◌, List, find, codes, Option, Some, None, option_map, option_and_then, if◌then◌else◌}
+use Rattle.std.specs.Prelude.{ℕ, Bool, true, not, ◌&&◌, ◌==◌, List, [], ◌∷◌, find, codes, Option, Some, None, option_map, option_and_then, if◌then◌else◌}
 use Rattle.std.specs.Option.{option_or, option_map_or}
 use Rattle.std.specs.Str.{bytes_eq}
 use Rattle.kg_row_types.specs.Lookups.{is_text}
@@ -33,31 +33,43 @@ id_holder kind id replaced rows = if is_other replaced id && has_row kind id row
 
 -- ---- the fields of a kind
 
--- a field with the id of the row that has it
-abbrev pub taken : List ℕ → Option ℕ → Option (List ℕ × ℕ)
-taken field found = option_map (λ id. (field, id)) found
+-- what only one row may have, with the id of another row that has it: the fields in byte order
+abbrev pub claims : Entity → Option ℕ → RowLists → List (List ℕ × Option ℕ)
+claims (row.Service service) replaced rows =
+    (codes "id", id_holder kind.Service service.id replaced rows)
+    ∷ (codes "name", text_holder (λ other. other.id) (λ other. other.name) replaced service.name rows.services)
+    ∷ []
+claims (row.Route route) replaced rows =
+    (codes "id", id_holder kind.Route route.id replaced rows)
+    ∷ (codes "name", text_holder (λ other. other.id) (λ other. other.name) replaced route.name rows.routes)
+    ∷ []
+claims (row.Consumer consumer) replaced rows =
+    (codes "custom_id", text_holder (λ other. other.id) (λ other. other.custom_id) replaced consumer.custom_id rows.consumers)
+    ∷ (codes "id", id_holder kind.Consumer consumer.id replaced rows)
+    ∷ (codes "username", text_holder (λ other. other.id) (λ other. other.username) replaced consumer.username rows.consumers)
+    ∷ []
+claims (row.KeyCred cred) replaced rows =
+    (codes "id", id_holder kind.KeyCred cred.id replaced rows)
+    ∷ (codes "key", holder (λ other. other.id) replaced (λ other. bytes_eq other.key cred.key) rows.key_creds)
+    ∷ []
+claims (row.BasicCred cred) replaced rows =
+    (codes "id", id_holder kind.BasicCred cred.id replaced rows)
+    ∷ (codes "username", holder (λ other. other.id) replaced (λ other. bytes_eq other.username cred.username) rows.basic_creds)
+    ∷ []
+claims (row.Acl membership) replaced rows =
+    (codes "group", holder (λ other. other.id) replaced (λ other. same_membership other membership) rows.acls)
+    ∷ (codes "id", id_holder kind.Acl membership.id replaced rows)
+    ∷ []
+claims (row.Plugin plugin) replaced rows =
+    (codes "id", id_holder kind.Plugin plugin.id replaced rows)
+    ∷ (codes "name", holder (λ other. other.id) replaced (λ other. same_place other plugin) rows.plugins)
+    ∷ []
 
--- the first field, in byte order, that another row has
+-- the first that another row has
+abbrev pub first_taken : List (List ℕ × Option ℕ) → Option (List ℕ × ℕ)
+first_taken [] = None
+first_taken (claim ∷ later) = option_or (option_map (λ id. (claim.0, id)) claim.1) (first_taken later)
+
+-- the first field, in byte order, that another row than the replaced one has
 abbrev pub claimed : Entity → Option ℕ → RowLists → Option (List ℕ × ℕ)
-claimed (row.Service service) replaced rows =
-    option_or (taken (codes "id") (id_holder kind.Service service.id replaced rows))
-    (taken (codes "name") (text_holder (λ other. other.id) (λ other. other.name) replaced service.name rows.services))
-claimed (row.Route route) replaced rows =
-    option_or (taken (codes "id") (id_holder kind.Route route.id replaced rows))
-    (taken (codes "name") (text_holder (λ other. other.id) (λ other. other.name) replaced route.name rows.routes))
-claimed (row.Consumer consumer) replaced rows =
-    option_or (taken (codes "custom_id") (text_holder (λ other. other.id) (λ other. other.custom_id) replaced consumer.custom_id rows.consumers))
-    (option_or (taken (codes "id") (id_holder kind.Consumer consumer.id replaced rows))
-    (taken (codes "username") (text_holder (λ other. other.id) (λ other. other.username) replaced consumer.username rows.consumers)))
-claimed (row.KeyCred cred) replaced rows =
-    option_or (taken (codes "id") (id_holder kind.KeyCred cred.id replaced rows))
-    (taken (codes "key") (holder (λ other. other.id) replaced (λ other. bytes_eq other.key cred.key) rows.key_creds))
-claimed (row.BasicCred cred) replaced rows =
-    option_or (taken (codes "id") (id_holder kind.BasicCred cred.id replaced rows))
-    (taken (codes "username") (holder (λ other. other.id) replaced (λ other. bytes_eq other.username cred.username) rows.basic_creds))
-claimed (row.Acl membership) replaced rows =
-    option_or (taken (codes "group") (holder (λ other. other.id) replaced (λ other. same_membership other membership) rows.acls))
-    (taken (codes "id") (id_holder kind.Acl membership.id replaced rows))
-claimed (row.Plugin plugin) replaced rows =
-    option_or (taken (codes "id") (id_holder kind.Plugin plugin.id replaced rows))
-    (taken (codes "name") (holder (λ other. other.id) replaced (λ other. same_place other plugin) rows.plugins))
+claimed new replaced rows = first_taken (claims new replaced rows)

@@ -1,14 +1,12 @@
 //! Which commands are allowed.
 
-ghost use Rattle.std.specs.Prelude.{◌≡◌, ◌==◌, ◌&&◌, not};
+ghost use Rattle.std.specs.Prelude.{◌≡◌, ◌==◌};
 ghost use Rattle.std.specs.List.{list_any};
-ghost use Rattle.kg_row_types.specs.Lookups.{is_text};
-ghost use Rattle.kg_row_types.specs.ValidRows.{same_membership, same_place};
-ghost use Rattle.kg_row_changes.specs.Allowed.{is_taken, is_free, has_if_set, has_scope, has_named_rows, is_unique, is_unused, is_consistent, has_room, is_allowed};
+ghost use Rattle.kg_row_changes.specs.Allowed.{has_if_set, has_scope, has_named_rows, is_unique, is_unused, is_consistent, has_room, is_allowed};
 
-use kg_entities::{AclRow, Consumer, Entity, Id, Kind, PluginRow, Route, Rows, Scope, Service};
+use crate::claims::claimed;
+use kg_entities::{Entity, Id, Kind, Route, Rows, Scope};
 use kg_row_values::command::Command;
-use kg_text::Text;
 
 /// Whether the command is allowed at these rows: an inserted row's id is new and its kind has fewer
 /// rows than the limit; an updated or deleted row is there; the rows that a row names are there; what
@@ -97,96 +95,12 @@ fn has_if_set(kind: Kind, reference: Option<Id>, rows: &Rows) -> bool
     }
 }
 
+// No row of another id has what only one may have.
 fn is_unique(row: &Entity, rows: &Rows) -> bool
     ensures { result ≡ is_unique row.now rows.now }
 {
-    match row {
-        Entity::Service(service) => is_service_name_free(service, rows),
-        Entity::Route(route) => is_route_name_free(route, rows),
-        Entity::Consumer(consumer) => {
-            is_username_free(consumer, rows) && is_custom_id_free(consumer, rows)
-        }
-        Entity::KeyCred(cred) => !rows.is_key_taken(cred.id, &cred.key),
-        Entity::BasicCred(cred) => !rows.is_login_taken(cred.id, &cred.username),
-        Entity::Acl(membership) => !is_membership_taken(membership, rows),
-        Entity::Plugin(plugin) => !is_place_taken(plugin, rows.plugins().as_slice()),
-    }
-}
-
-/// Is the text set to this one?
-pub fn is_text(set: &Option<Text>, text: &Text) -> bool
-    ensures { result ≡ is_text text.now set.now }
-{
-    match set {
-        Some(other) => other == text,
-        None => false,
-    }
-}
-
-fn is_service_name_free(service: &Service, rows: &Rows) -> bool
-    ensures { result ≡ is_free (λ other. other.id) (λ other. other.name) service.now.id service.now.name rows.now.services }
-{
-    match &service.name {
-        Some(text) => !rows.is_service_name_taken(service.id, text),
+    match claimed(rows, row, &Some(row.id())) {
+        Some(_) => false,
         None => true,
     }
-}
-
-fn is_route_name_free(route: &Route, rows: &Rows) -> bool
-    ensures { result ≡ is_free (λ other. other.id) (λ other. other.name) route.now.id route.now.name rows.now.routes }
-{
-    match &route.name {
-        Some(text) => !rows.is_route_name_taken(route.id, text),
-        None => true,
-    }
-}
-
-fn is_username_free(consumer: &Consumer, rows: &Rows) -> bool
-    ensures { result ≡ is_free (λ other. other.id) (λ other. other.username) consumer.now.id consumer.now.username rows.now.consumers }
-{
-    match &consumer.username {
-        Some(text) => !rows.is_username_taken(consumer.id, text),
-        None => true,
-    }
-}
-
-fn is_custom_id_free(consumer: &Consumer, rows: &Rows) -> bool
-    ensures { result ≡ is_free (λ other. other.id) (λ other. other.custom_id) consumer.now.id consumer.now.custom_id rows.now.consumers }
-{
-    match &consumer.custom_id {
-        Some(text) => !rows.is_custom_id_taken(consumer.id, text),
-        None => true,
-    }
-}
-
-fn is_membership_taken(membership: &AclRow, rows: &Rows) -> bool
-    ensures { result ≡ is_taken (λ other. other.id) membership.now.id (λ other. same_membership other membership.now) rows.now.acls }
-{
-    is_other_membership(membership, rows.acls_of(membership.consumer))
-}
-
-fn is_other_membership(membership: &AclRow, acls: &[AclRow]) -> bool
-    ensures { result ≡ is_taken (λ other. other.id) membership.now.id (λ other. same_membership other membership.now) acls.now }
-{
-    acls.iter().any(|other| other.id != membership.id && is_same_membership(other, membership))
-}
-
-/// One consumer in one group?
-pub fn is_same_membership(a: &AclRow, b: &AclRow) -> bool
-    ensures { result ≡ same_membership a.now b.now }
-{
-    a.consumer == b.consumer && a.group == b.group
-}
-
-fn is_place_taken(plugin: &PluginRow, plugins: &[PluginRow]) -> bool
-    ensures { result ≡ is_taken (λ other. other.id) plugin.now.id (λ other. same_place other plugin.now) plugins.now }
-{
-    plugins.iter().any(|other| other.id != plugin.id && is_same_place(other, plugin))
-}
-
-/// One plugin in one scope?
-pub fn is_same_place(a: &PluginRow, b: &PluginRow) -> bool
-    ensures { result ≡ same_place a.now b.now }
-{
-    a.config.name().is_same(b.config.name()) && a.scope.is_same(&b.scope)
 }

@@ -1,19 +1,20 @@
 //! What only one row may have, and which other row has it. All rows are searched only where a text is
 //! taken from a row that is changed, and among plugins.
 
-ghost use Rattle.std.specs.Prelude.{◌≡◌, ◌==◌, ◌&&◌, Some, find, not, option_map};
+ghost use Rattle.std.specs.Prelude.{◌≡◌, ◌==◌, ◌&&◌, [], ◌∷◌, Some, find, not, option_map};
 ghost use Rattle.std.specs.List.{list_any};
-ghost use Rattle.std.specs.Option.{option_copied, option_or};
+ghost use Rattle.std.specs.Option.{option_copied};
 ghost use Rattle.std.specs.Str.{bytes_eq};
 ghost use Rattle.kg_row_types.specs.Lookups.{is_text};
 ghost use Rattle.kg_row_types.specs.ValidRows.{same_membership, same_place};
 ghost use Rattle.kg_row_types.specs.declared.entity.Entity.TheVariants as of_row;
-ghost use Rattle.kg_row_changes.specs.Claims.{claimed, holder, id_holder, is_other, taken, text_holder};
+ghost use Rattle.kg_row_changes.specs.Claims.{claimed, first_taken, holder, id_holder, is_other, text_holder};
 
-use crate::admit::{is_same_membership, is_same_place, is_text};
 use kg_entities::{
-    AclRow, BasicCred, Consumer, Entity, Id, KeyCred, Kind, PluginRow, Route, Row, Rows, Service,
+    AclRow, BasicCred, Consumer, Entity, Id, KeyCred, Kind, PluginRow, Route, Row, RowTable, Rows,
+    Service,
 };
+use kg_row_types::row::Named;
 use kg_text::Text;
 
 type Claim = (&'static str, Id);
@@ -25,12 +26,12 @@ pub fn claimed(rows: &Rows, row: &Entity, replaced: &Option<Id>) -> Option<Claim
     match row {
         Entity::Service(service) => {
             let id = id_holder(rows, Kind::Service, service.id, *replaced);
-            let name = named_service(rows, *replaced, service);
+            let name = service_name_holder(rows, *replaced, service);
             first("id", id, "name", name)
         }
         Entity::Route(route) => {
             let id = id_holder(rows, Kind::Route, route.id, *replaced);
-            let name = named_route(rows, *replaced, route);
+            let name = route_name_holder(rows, *replaced, route);
             first("id", id, "name", name)
         }
         Entity::Consumer(consumer) => claimed_consumer(rows, consumer, replaced),
@@ -68,9 +69,9 @@ fn claimed_consumer(rows: &Rows, consumer: &Consumer, replaced: &Option<Id>) -> 
     }
 }
 
-// A field with the id of the row that has it.
+// The one field, if it is taken.
 fn taken(field: &'static str, found: Option<Id>) -> Option<Claim>
-    ensures { option_map (λ claim. (claim.0.now, claim.1)) result ≡ taken field.now found }
+    ensures { option_map (λ claim. (claim.0.now, claim.1)) result ≡ first_taken ((field.now, found) ∷ []) }
 {
     match found {
         Some(id) => Some((field, id)),
@@ -85,7 +86,7 @@ fn first(
     later: &'static str,
     other: Option<Id>,
 ) -> Option<Claim>
-    ensures { option_map (λ claim. (claim.0.now, claim.1)) result ≡ option_or (taken field.now found) (taken later.now other) }
+    ensures { option_map (λ claim. (claim.0.now, claim.1)) result ≡ first_taken ((field.now, found) ∷ (later.now, other) ∷ []) }
 {
     match found {
         Some(id) => Some((field, id)),
@@ -123,116 +124,120 @@ fn id_of<T: Row>(found: Option<&T>) -> Option<Id>
     }
 }
 
-fn named_service(rows: &Rows, replaced: Option<Id>, service: &Service) -> Option<Id>
+// The first row with this name, but for one of this id. All rows are searched only where there is one.
+#[tactic(auto, using(kg_row_values::proofs::Searches::held_by_none))]
+fn other_named<T: Named>(rows: &RowTable<T>, old: Id, text: &Text, is_taken: bool) -> Option<Id>
+    requires { is_taken ≡ list_any (λ other. not (T.number other == old) && is_text text.now (T.name other)) rows.now }
+    ensures { result ≡ holder T.number (Some old) (λ other. is_text text.now (T.name other)) rows.now }
+{
+    if is_taken {
+        return id_of(with_name(rows.as_slice(), old, text));
+    }
+    None
+}
+
+fn with_name<'r, T: Named>(rows: &'r [T], old: Id, text: &Text) -> Option<&'r T>
+    ensures { option_copied result ≡ find (λ other. not (T.number other == old) && is_text text.now (T.name other)) rows.now }
+{
+    rows.iter()
+        .find(|other| other.id() != old && is(other.name(), text))
+}
+
+// The same for the alias.
+#[tactic(auto, using(kg_row_values::proofs::Searches::held_by_none))]
+fn other_aliased<T: Named>(rows: &RowTable<T>, old: Id, text: &Text, is_taken: bool) -> Option<Id>
+    requires { is_taken ≡ list_any (λ other. not (T.number other == old) && is_text text.now (T.alias other)) rows.now }
+    ensures { result ≡ holder T.number (Some old) (λ other. is_text text.now (T.alias other)) rows.now }
+{
+    if is_taken {
+        return id_of(with_alias(rows.as_slice(), old, text));
+    }
+    None
+}
+
+fn with_alias<'r, T: Named>(rows: &'r [T], old: Id, text: &Text) -> Option<&'r T>
+    ensures { option_copied result ≡ find (λ other. not (T.number other == old) && is_text text.now (T.alias other)) rows.now }
+{
+    rows.iter()
+        .find(|other| other.id() != old && is(other.alias(), text))
+}
+
+fn is(set: Option<&Text>, text: &Text) -> bool
+    ensures { result ≡ is_text text.now (option_copied set.entry) }
+{
+    match set {
+        Some(other) => other == text,
+        None => false,
+    }
+}
+
+fn service_name_holder(rows: &Rows, replaced: Option<Id>, service: &Service) -> Option<Id>
     ensures { result ≡ text_holder (λ other. other.id) (λ other. other.name) replaced service.now.name rows.now.services }
 {
     match &service.name {
-        Some(name) => service_name_holder(rows, replaced, name),
+        Some(text) => service_text_holder(rows, replaced, text),
         None => None,
     }
 }
 
-fn service_name_holder(rows: &Rows, replaced: Option<Id>, name: &Text) -> Option<Id>
-    ensures { result ≡ holder (λ other. other.id) replaced (λ other. is_text name.now other.name) rows.now.services }
+fn service_text_holder(rows: &Rows, replaced: Option<Id>, text: &Text) -> Option<Id>
+    ensures { result ≡ holder (λ other. other.id) replaced (λ other. is_text text.now other.name) rows.now.services }
 {
     match replaced {
-        Some(old) => other_service(rows, old, name),
-        None => id_of(rows.service_named(name)),
+        Some(old) => other_named(
+            rows.services(),
+            old,
+            text,
+            rows.is_service_name_taken(old, text),
+        ),
+        None => id_of(rows.service_named(text)),
     }
 }
 
-#[tactic(auto, using(kg_row_values::proofs::Searches::held_by_none))]
-fn other_service(rows: &Rows, old: Id, name: &Text) -> Option<Id>
-    ensures { result ≡ holder (λ other. other.id) (Some old) (λ other. is_text name.now other.name) rows.now.services }
-{
-    if rows.is_service_name_taken(old, name) {
-        return id_of(service_with_name(rows.services().as_slice(), old, name));
-    }
-    None
-}
-
-fn service_with_name<'r>(services: &'r [Service], old: Id, name: &Text) -> Option<&'r Service>
-    ensures { option_copied result ≡ find (λ other. not (other.id == old) && is_text name.now other.name) services.now }
-{
-    services
-        .iter()
-        .find(|other| other.id != old && is_text(&other.name, name))
-}
-
-fn named_route(rows: &Rows, replaced: Option<Id>, route: &Route) -> Option<Id>
+fn route_name_holder(rows: &Rows, replaced: Option<Id>, route: &Route) -> Option<Id>
     ensures { result ≡ text_holder (λ other. other.id) (λ other. other.name) replaced route.now.name rows.now.routes }
 {
     match &route.name {
-        Some(name) => route_name_holder(rows, replaced, name),
+        Some(text) => route_text_holder(rows, replaced, text),
         None => None,
     }
 }
 
-fn route_name_holder(rows: &Rows, replaced: Option<Id>, name: &Text) -> Option<Id>
-    ensures { result ≡ holder (λ other. other.id) replaced (λ other. is_text name.now other.name) rows.now.routes }
+fn route_text_holder(rows: &Rows, replaced: Option<Id>, text: &Text) -> Option<Id>
+    ensures { result ≡ holder (λ other. other.id) replaced (λ other. is_text text.now other.name) rows.now.routes }
 {
     match replaced {
-        Some(old) => other_route(rows, old, name),
-        None => id_of(rows.route_named(name)),
+        Some(old) => other_named(
+            rows.routes(),
+            old,
+            text,
+            rows.is_route_name_taken(old, text),
+        ),
+        None => id_of(rows.route_named(text)),
     }
-}
-
-#[tactic(auto, using(kg_row_values::proofs::Searches::held_by_none))]
-fn other_route(rows: &Rows, old: Id, name: &Text) -> Option<Id>
-    ensures { result ≡ holder (λ other. other.id) (Some old) (λ other. is_text name.now other.name) rows.now.routes }
-{
-    if rows.is_route_name_taken(old, name) {
-        return id_of(route_with_name(rows.routes().as_slice(), old, name));
-    }
-    None
-}
-
-fn route_with_name<'r>(routes: &'r [Route], old: Id, name: &Text) -> Option<&'r Route>
-    ensures { option_copied result ≡ find (λ other. not (other.id == old) && is_text name.now other.name) routes.now }
-{
-    routes
-        .iter()
-        .find(|other| other.id != old && is_text(&other.name, name))
 }
 
 fn username_holder(rows: &Rows, replaced: Option<Id>, consumer: &Consumer) -> Option<Id>
     ensures { result ≡ text_holder (λ other. other.id) (λ other. other.username) replaced consumer.now.username rows.now.consumers }
 {
     match &consumer.username {
-        Some(name) => username_text_holder(rows, replaced, name),
+        Some(text) => username_text_holder(rows, replaced, text),
         None => None,
     }
 }
 
-fn username_text_holder(rows: &Rows, replaced: Option<Id>, name: &Text) -> Option<Id>
-    ensures { result ≡ holder (λ other. other.id) replaced (λ other. is_text name.now other.username) rows.now.consumers }
+fn username_text_holder(rows: &Rows, replaced: Option<Id>, text: &Text) -> Option<Id>
+    ensures { result ≡ holder (λ other. other.id) replaced (λ other. is_text text.now other.username) rows.now.consumers }
 {
     match replaced {
-        Some(old) => other_with_username(rows, old, name),
-        None => id_of(rows.consumer_with_username(name)),
+        Some(old) => other_named(
+            rows.consumers(),
+            old,
+            text,
+            rows.is_username_taken(old, text),
+        ),
+        None => id_of(rows.consumer_with_username(text)),
     }
-}
-
-#[tactic(auto, using(kg_row_values::proofs::Searches::held_by_none))]
-fn other_with_username(rows: &Rows, old: Id, name: &Text) -> Option<Id>
-    ensures { result ≡ holder (λ other. other.id) (Some old) (λ other. is_text name.now other.username) rows.now.consumers }
-{
-    if rows.is_username_taken(old, name) {
-        return id_of(consumer_with_username(rows.consumers().as_slice(), old, name));
-    }
-    None
-}
-
-fn consumer_with_username<'r>(
-    consumers: &'r [Consumer],
-    old: Id,
-    name: &Text,
-) -> Option<&'r Consumer>
-    ensures { option_copied result ≡ find (λ other. not (other.id == old) && is_text name.now other.username) consumers.now }
-{
-    consumers
-        .iter()
-        .find(|other| other.id != old && is_text(&other.username, name))
 }
 
 fn custom_id_holder(rows: &Rows, replaced: Option<Id>, consumer: &Consumer) -> Option<Id>
@@ -248,85 +253,39 @@ fn custom_id_text_holder(rows: &Rows, replaced: Option<Id>, text: &Text) -> Opti
     ensures { result ≡ holder (λ other. other.id) replaced (λ other. is_text text.now other.custom_id) rows.now.consumers }
 {
     match replaced {
-        Some(old) => other_with_custom_id(rows, old, text),
+        Some(old) => other_aliased(
+            rows.consumers(),
+            old,
+            text,
+            rows.is_custom_id_taken(old, text),
+        ),
         None => id_of(rows.consumer_with_custom_id(text)),
     }
-}
-
-#[tactic(auto, using(kg_row_values::proofs::Searches::held_by_none))]
-fn other_with_custom_id(rows: &Rows, old: Id, text: &Text) -> Option<Id>
-    ensures { result ≡ holder (λ other. other.id) (Some old) (λ other. is_text text.now other.custom_id) rows.now.consumers }
-{
-    if rows.is_custom_id_taken(old, text) {
-        return id_of(consumer_with_custom_id(rows.consumers().as_slice(), old, text));
-    }
-    None
-}
-
-fn consumer_with_custom_id<'r>(
-    consumers: &'r [Consumer],
-    old: Id,
-    text: &Text,
-) -> Option<&'r Consumer>
-    ensures { option_copied result ≡ find (λ other. not (other.id == old) && is_text text.now other.custom_id) consumers.now }
-{
-    consumers
-        .iter()
-        .find(|other| other.id != old && is_text(&other.custom_id, text))
 }
 
 fn key_holder(rows: &Rows, replaced: Option<Id>, cred: &KeyCred) -> Option<Id>
     ensures { result ≡ holder (λ other. other.id) replaced (λ other. bytes_eq other.key cred.now.key) rows.now.key_creds }
 {
+    let text = &cred.key;
     match replaced {
-        Some(old) => other_key(rows, old, cred),
-        None => id_of(rows.cred_with_key(&cred.key)),
+        Some(old) => other_named(rows.key_creds(), old, text, rows.is_key_taken(old, text)),
+        None => id_of(rows.cred_with_key(text)),
     }
-}
-
-#[tactic(auto, using(kg_row_values::proofs::Searches::held_by_none))]
-fn other_key(rows: &Rows, old: Id, cred: &KeyCred) -> Option<Id>
-    ensures { result ≡ holder (λ other. other.id) (Some old) (λ other. bytes_eq other.key cred.now.key) rows.now.key_creds }
-{
-    if rows.is_key_taken(old, &cred.key) {
-        return id_of(with_key(rows.key_creds().as_slice(), old, cred));
-    }
-    None
-}
-
-fn with_key<'r>(creds: &'r [KeyCred], old: Id, cred: &KeyCred) -> Option<&'r KeyCred>
-    ensures { option_copied result ≡ find (λ other. not (other.id == old) && bytes_eq other.key cred.now.key) creds.now }
-{
-    creds
-        .iter()
-        .find(|other| other.id != old && other.key == cred.key)
 }
 
 fn login_holder(rows: &Rows, replaced: Option<Id>, cred: &BasicCred) -> Option<Id>
     ensures { result ≡ holder (λ other. other.id) replaced (λ other. bytes_eq other.username cred.now.username) rows.now.basic_creds }
 {
+    let text = &cred.username;
     match replaced {
-        Some(old) => other_login(rows, old, cred),
-        None => id_of(rows.cred_with_username(&cred.username)),
+        Some(old) => other_named(
+            rows.basic_creds(),
+            old,
+            text,
+            rows.is_login_taken(old, text),
+        ),
+        None => id_of(rows.cred_with_username(text)),
     }
-}
-
-#[tactic(auto, using(kg_row_values::proofs::Searches::held_by_none))]
-fn other_login(rows: &Rows, old: Id, cred: &BasicCred) -> Option<Id>
-    ensures { result ≡ holder (λ other. other.id) (Some old) (λ other. bytes_eq other.username cred.now.username) rows.now.basic_creds }
-{
-    if rows.is_login_taken(old, &cred.username) {
-        return id_of(with_login(rows.basic_creds().as_slice(), old, cred));
-    }
-    None
-}
-
-fn with_login<'r>(creds: &'r [BasicCred], old: Id, cred: &BasicCred) -> Option<&'r BasicCred>
-    ensures { option_copied result ≡ find (λ other. not (other.id == old) && bytes_eq other.username cred.now.username) creds.now }
-{
-    creds
-        .iter()
-        .find(|other| other.id != old && other.username == cred.username)
 }
 
 fn group_holder(rows: &Rows, replaced: Option<Id>, membership: &AclRow) -> Option<Id>
@@ -368,4 +327,18 @@ fn in_place<'r>(
     ensures { option_copied result ≡ find (λ other. is_other replaced other.id && same_place other plugin.now) plugins.now }
 {
     plugins.iter().find(|other| is_other(replaced, other.id) && is_same_place(other, plugin))
+}
+
+// One consumer in one group?
+fn is_same_membership(a: &AclRow, b: &AclRow) -> bool
+    ensures { result ≡ same_membership a.now b.now }
+{
+    a.consumer == b.consumer && a.group == b.group
+}
+
+// One plugin in one scope?
+fn is_same_place(a: &PluginRow, b: &PluginRow) -> bool
+    ensures { result ≡ same_place a.now b.now }
+{
+    a.config.name().is_same(b.config.name()) && a.scope.is_same(&b.scope)
 }
