@@ -1,11 +1,11 @@
 -- What a judgement of the bytes at hand rests on.
-use Rattle.std.proofs.Common.{◌≡◌, ℕ, ◌+◌, ◌*◌, ◌<◌, ◌≤◌, ◌⊎◌, inl, inr, List, [], ◌∷◌, ◌++◌, length, take, drop, refl, sym, ap, ◌∙◌, subst, arith}
-use Rattle.std.proofs.lemmas.List.{append-nil, length-append, length-take, take-append-drop}
+use Rattle.std.proofs.Common.{ℕ, ◌<◌, ◌≤◌, inl, inr, List, [], ◌++◌, length, take, drop, ap, ◌∙◌, subst, arith}
+use Rattle.std.proofs.lemmas.List.{length-append, length-take, take-append-drop}
 use Rattle.httparse.specs.Grammar.{lf, print_end, RequestHead, print_request, ReadsRequest, HasNoRequest, NeverHasRequest, EndsInTarget}
 use Rattle.httparse.specs.Spans.{RequestOverflows, RequestExceeds}
 use Rattle.httparse.proofs.GrammarLemmas.{ReadsRequest-append}
 use Rattle.kg_wire.specs.Messages.{most_head}
-use Rattle.kg_wire.specs.Refusals.{IsLongHead, IsBad}
+use Rattle.kg_wire.specs.Refusals.{IsBad}
 use Rattle.kg_wire.proofs.JudgeLemmas.{head_long}
 use Rattle.kg_wire.proofs.RefusalLemmas.{none_yet, none_in_front, none_shorter}
 

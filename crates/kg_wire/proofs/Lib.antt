@@ -8,4 +8,5 @@ mod OpenTargetLemmas
 mod PrintedLemmas
 mod ReaderLemmas
 pub mod RefusalLemmas
+mod StatedLemmas
 mod ValueLemmas

@@ -1,6 +1,6 @@
 -- A printed upstream message is read as its parts.
-use Rattle.std.proofs.Common.{◌≡◌, ℕ, suc, ◌+◌, ◌<◌, ◌≤◌, ◌^◌, ◌==◌, nat_lt, nat_le, if◌then◌else◌, Bool, true, false, ◌&&◌, cond, List, [], ◌∷◌, ◌++◌, length, map, reverse, get_or, Some, None, Ok, Err, refl, sym, ap, ◌∙◌, subst, arith}
-use Rattle.std.specs.Prelude.{All, IsTrue, codes, count_by, decimal, find, option_map, slice_index, unwrap_or}
+use Rattle.std.proofs.Common.{◌≡◌, ℕ, suc, ◌+◌, ◌<◌, ◌≤◌, ◌^◌, ◌==◌, nat_lt, nat_le, if◌then◌else◌, Bool, true, false, ◌&&◌, cond, List, [], ◌∷◌, ◌++◌, length, map, reverse, get_or, Some, None, Ok, Err, refl, sym, ap, ◌∙◌, subst, arith, Option}
+use Rattle.std.specs.Prelude.{All, IsTrue, codes, count_by, decimal, find, option_map, slice_index}
 use Rattle.std.specs.Int.{IsInRange}
 use Rattle.std.specs.Result.{result_unwrap_or}
 use Rattle.std.specs.List.{flat_map, list_all, before_first, after_first, position_or_len, prefix_len}
@@ -21,10 +21,11 @@ use Rattle.httparse.specs.Spans.{name_and_value}
 use Rattle.httparse.proofs.TrimLemmas.{AllPass-reverse, trim_ows_space}
 use Rattle.kg_text.specs.Names.{is_tchar, is_token, IsName}
 use Rattle.kg_text.specs.Paths.{slash, is_path, is_path_byte, normal_form}
-use Rattle.kg_message.specs.HeaderLists.{is_named}
+use Rattle.kg_message.specs.HeaderLists.{is_named, values_named}
 use Rattle.kg_message.specs.declared.header.Header.{Header}
 use Rattle.kg_message.specs.declared.request.Request.{Request}
-use Rattle.kg_wire.specs.Checks.{body_len, length_by, length_of, has_host, is_framed, named_count, content_length_value}
+use Rattle.kg_wire.proofs.StatedLemmas.{zero_stated, one_stated}
+use Rattle.kg_wire.specs.Checks.{body_len, length_of, has_host, is_framed, named_count, stated_length as length_of_values}
 use Rattle.kg_wire.specs.declared.head.Head.{Head}
 use Rattle.kg_print.specs.FieldLines.{content_length, stated_length, connection, field_line, field_lines, line_end}
 use Rattle.kg_wire.specs.Messages.{most_head, most_body, Message, header_of, head_of, request_with}
@@ -429,20 +430,23 @@ head_read method target fields all =
     λ i. record { method = method; target = target; minor = 1; headers = same i }
 
 -- a head that passes states this length
-states : (target host : Bool) (codings count n : ℕ) (value : List ℕ) → target ≡ true → host ≡ true → codings ≡ 0
-    → length_by count value ≡ Some n → (if target && host && codings == 0 then length_by count value else None) ≡ Some n
-states target host codings count n value target_is host_is codings_is stated =
-    rw (target_is, host_is, codings_is) stated
+states : (target host : Bool) (codings n : ℕ) (stated : Option ℕ) → target ≡ true → host ≡ true → codings ≡ 0
+    → stated ≡ Some n → (if target && host && codings == 0 then stated else None) ≡ Some n
+states target host codings n stated target_is host_is codings_is states_n =
+    rw (target_is, host_is, codings_is) states_n
 
--- what so many fields, the first of which has such a value, state
+-- what one such field, or none, states
 fields_state : (fields : List Header) (framed : Bool) (body : List ℕ) → length body ≤ most_body
     → count_by (is_named (codes "content-length")) fields ≡ cond framed 1 0
     → (framed ≡ false → body ≡ [])
     → (framed ≡ true → find (is_named (codes "content-length")) fields ≡ Some (content_length body))
-    → length_by (count_by (is_named (codes "content-length")) fields)
-    (unwrap_or (option_map (λ field. field.value) (find (is_named (codes "content-length")) fields)) []) ≡ Some (length body)
-fields_state fields false body short count unframed found = rw (count, unframed refl) refl
-fields_state fields true body short count unframed found = rw (count, found refl) (length_read (length body) short)
+    → length_of_values (values_named (codes "content-length") fields) ≡ Some (length body)
+fields_state fields false body short count unframed found =
+    zero_stated (is_named (codes "content-length")) fields count ∙ ap (λ bytes. Some (length bytes)) (sym (unframed refl))
+fields_state fields true body short count unframed found =
+    one_stated (is_named (codes "content-length")) fields (content_length body).value
+    (ap (option_map (λ field. field.value)) (found refl)) count
+    ∙ length_read (length body) short
 
 head_states : (method target host : List ℕ) (request : Request) (headers : List Header) → AreParts method target host request headers
     → body_len (read_head method target (sent_fields host request headers)) ≡ Some (length request.body)
@@ -450,7 +454,7 @@ head_states method target host request headers are =
     let head = read_head method target (sent_fields host request headers) in
     let hosts : has_host head ≡ true = rw (host_count host request headers are.no_host) refl in
     states (is_target target) (has_host head) (named_count (codes "transfer-encoding") head)
-    (named_count (codes "content-length") head) (length request.body) (content_length_value head)
+    (length request.body) (length_of_values (values_named (codes "content-length") head.headers))
     are.target_is hosts (coding_count host request headers are.no_coding)
     (fields_state (sent_fields host request headers) request.framed request.body are.short_body
     (length_count host request headers are.no_length) are.unframed (length_found host request headers are.no_length))

@@ -1,5 +1,5 @@
 -- What a whole head says of the message that it begins.
-use Rattle.std.proofs.Common.{◌≡◌, ℕ, ◌+◌, ◌<◌, ◌≤◌, Bool, true, false, ◌&&◌, if◌then◌else◌, List, [], ◌∷◌, ◌++◌, length, map, take, drop, Option, Some, None, Ok, Err, inl, inr, refl, sym, ap, ◌∙◌, subst, eq-eqb, ltb, arith}
+use Rattle.std.proofs.Common.{◌≡◌, ℕ, ◌+◌, ◌<◌, ◌≤◌, Bool, true, false, ◌&&◌, if◌then◌else◌, List, [], ◌∷◌, ◌++◌, length, map, take, drop, Option, Some, None, Ok, Err, inr, refl, sym, ap, ◌∙◌, subst, eq-eqb, ltb, arith}
 use Rattle.std.proofs.Math.Seq.{take-append-add, drop-append-add}
 use Rattle.std.specs.Prelude.{All, IsTrue, Result, IfErr, IsErrAnd}
 use Rattle.std.specs.List.{list_all, prefix_len}
@@ -57,6 +57,12 @@ names_are_tokens held room spans h there =
 pub head_at-head_of : (held : List ℕ) (room : List HeaderSpan) (spans : RequestSpans) (h : RequestHead)
     → IsRequestAt held room spans h → head_at held room spans ≡ head_of h
 head_at-head_of held room spans h there = rw (there.method, there.path, there.version, there.fields) refl
+
+-- the body that a copied head states is the one that the head at the front states
+pub copied_body : (held : List ℕ) (room : List HeaderSpan) (spans : RequestSpans) (h : RequestHead) (head : Head) (len : Option ℕ)
+    → IsRequestAt held room spans h → head ≡ head_at held room spans → len ≡ body_len head → body_len (head_of h) ≡ len
+copied_body held room spans h head len there copied is =
+    ap body_len (sym (head_at-head_of held room spans h there) ∙ sym copied) ∙ sym is
 
 -- a head within its limit that fails a check stands at the front
 pub bad_when_failing : (held : List ℕ) (h : RequestHead) (rest : List ℕ) → ReadsRequest held h rest

@@ -9,8 +9,8 @@ use Rattle.std.proofs.lemmas.Str.Ascii.{IsAscii-cons, IsAscii-nil}
 use Rattle.httparse.specs.Grammar.{LineEnd, lf, is_uri_byte, AllPass, IsToken, print_end, print_blank, print_version, print_section, RequestHead, IsRequestHead, print_request, ReadsRequest, HasNoRequest, NeverHasRequest, MayBecomeRequest, EndsInTarget}
 use Rattle.httparse.proofs.GrammarLemmas.{ReadsRequest-append, request_unique}
 use Rattle.kg_wire.specs.Checks.{body_len}
-use Rattle.kg_wire.specs.Messages.{most_head, most_body, Message, head_of, IsRequest, BeginsNoRequest, NeverBegins}
-use Rattle.kg_wire.specs.Refusals.{IsNoHead, IsLongHead, IsWrongHead, IsBad, IsOpenHead, IsPartBody, IsCut}
+use Rattle.kg_wire.specs.Messages.{most_head, most_body, head_of, BeginsNoRequest, NeverBegins}
+use Rattle.kg_wire.specs.Refusals.{IsBad, IsCut}
 use Rattle.kg_wire.proofs.JudgeLemmas.{head_some}
 use Rattle.kg_wire.proofs.MessageLemmas.{head_reads}
 

@@ -1,10 +1,10 @@
 -- What a head must pass beside the grammar, and the length of the body that it states (RFC 9112,
 -- sections 3.2 and 6). Each refusal is answered alike, so their order doesn't show.
-use Rattle.std.specs.Prelude.{ℕ, Bool, ◌&&◌, ◌||◌, ◌==◌, nat_lt, nat_le, List, [], length, count_by, Option, Some, None, codes, unwrap_or, if◌then◌else◌}
+use Rattle.std.specs.Prelude.{ℕ, Bool, ◌&&◌, ◌||◌, ◌==◌, nat_lt, nat_le, List, [], ◌∷◌, length, count_by, Option, Some, None, codes, if◌then◌else◌}
 use Rattle.std.specs.List.{list_all}
 use Rattle.std.specs.Char.{is_ascii_digit}
 use Rattle.std.specs.Str.Parse.{digits_value}
-use Rattle.kg_message.specs.HeaderLists.{is_named, first_value}
+use Rattle.kg_message.specs.HeaderLists.{is_named, values_named}
 use Rattle.kg_wire.specs.Targets.{is_target}
 use Rattle.kg_wire.specs.declared.head.Head.{Head}
 
@@ -26,14 +26,12 @@ is_length value = nat_lt 0 (length value) && nat_le (length value) 19 && list_al
 abbrev pub length_of : List ℕ → Option ℕ
 length_of value = if is_length value then Some (digits_value 10 value) else None
 
--- the value of the first Content-Length; no bytes where there is none
-abbrev pub content_length_value : Head → List ℕ
-content_length_value head = unwrap_or (first_value (codes "content-length") head.headers) []
-
--- what so many Content-Length fields, the first of which has this value, say of a body: none says that
--- there is none, and more than one is refused
-abbrev pub length_by : ℕ → List ℕ → Option ℕ
-length_by count value = if count == 0 then Some 0 else (if count == 1 then length_of value else None)
+-- the length of the body that the values of all Content-Length fields state: none says that there is no
+-- body, and several are refused
+abbrev pub stated_length : List (List ℕ) → Option ℕ
+stated_length [] = Some 0
+stated_length (value ∷ []) = length_of value
+stated_length (value ∷ other ∷ values) = None
 
 -- the head states how long the body is
 abbrev pub is_framed : Head → Bool
@@ -47,5 +45,4 @@ passes_checks head =
 -- the length of the body that follows the head, where the head passes all checks
 abbrev pub body_len : Head → Option ℕ
 body_len head =
-    if passes_checks head then length_by (named_count (codes "content-length") head) (content_length_value head)
-    else None
+    if passes_checks head then stated_length (values_named (codes "content-length") head.headers) else None

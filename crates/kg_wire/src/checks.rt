@@ -1,12 +1,14 @@
 //! What a head must pass beside the grammar, and the length of the body that it states.
 
-ghost use Rattle.std.specs.Prelude.{◌≡◌, IsAscii};
+ghost use Rattle.std.specs.Prelude.{◌≡◌, IsAscii, codes};
 ghost use Rattle.std.specs.List.{list_all};
 ghost use Rattle.std.specs.Char.{is_ascii_digit};
-ghost use Rattle.kg_wire.specs.Checks.{body_len, content_length_value, has_host, is_framed, is_length, length_by, length_of, passes_checks};
+ghost use Rattle.kg_message.specs.HeaderLists.{values_named};
+ghost use Rattle.kg_wire.specs.Checks.{body_len, has_host, is_framed, is_length, length_of, passes_checks, stated_length};
 
 use crate::head::Head;
 use crate::target::is_target;
+use kg_message::Headers;
 use std::str::from_utf8;
 
 /// The length in bytes of the body that follows a head, if the head passes all checks. It may be past
@@ -15,10 +17,7 @@ pub fn body_len(head: &Head) -> Option<u64>
     ensures { result ≡ body_len head.now }
 {
     if passes_checks(head) {
-        length_by(
-            head.headers.count(b"content-length"),
-            content_length_value(head),
-        )
+        stated_length(&head.headers)
     } else {
         None
     }
@@ -50,23 +49,19 @@ fn has_host(head: &Head) -> bool
     }
 }
 
-fn content_length_value(head: &Head) -> &[u8]
-    ensures { result.now ≡ content_length_value head.now }
+// What the Content-Length fields say of a body.
+fn stated_length(headers: &Headers) -> Option<u64>
+    ensures { result ≡ stated_length (values_named (codes "content-length") headers.now) }
 {
-    match head.headers.first(b"content-length") {
-        Some(value) => value,
-        None => &[],
-    }
-}
-
-// What so many fields, the first of which has this value, say of a body.
-fn length_by(count: usize, value: &[u8]) -> Option<u64>
-    ensures { result ≡ length_by count value.now }
-{
-    match count {
-        0 => Some(0),
-        1 => length_of(value),
-        _ => None,
+    match headers.first(b"content-length") {
+        Some(value) => {
+            if headers.count(b"content-length") == 1 {
+                length_of(value)
+            } else {
+                None
+            }
+        }
+        None => Some(0),
     }
 }
 

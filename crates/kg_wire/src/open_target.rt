@@ -7,6 +7,8 @@ ghost use Rattle.kg_text.specs.Names.{is_tchar};
 ghost use Rattle.kg_wire.specs.OpenTargets.{next_place};
 ghost use Rattle.kg_wire.specs.declared.open_target.Place.TheVariants.{Blank, Method, Elsewhere};
 
+use kg_text::is_tchar;
+
 /// Where in a request line some bytes end.
 #[derive(Clone, Copy)]
 pub enum Place {
@@ -88,13 +90,6 @@ fn method_place(b: u8) -> Place
     } else {
         Place::Elsewhere
     }
-}
-
-// A tchar: a letter, a digit or one of fifteen marks.
-fn is_tchar(b: u8) -> bool
-    ensures { result ≡ is_tchar b }
-{
-    b.is_ascii_alphanumeric() || b"!#$%&'*+-.^_`|~".contains(&b)
 }
 
 // Visible, or past ASCII.

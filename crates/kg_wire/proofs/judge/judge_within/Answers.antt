@@ -1,5 +1,5 @@
-use Rattle.std.proofs.Common.{◌≡◌, length, refl, sym, ap, ◌∙◌, Err, arith}
-use Rattle.std.proofs.lemmas.Bool.{eqb-true, eqb-false}
+use Rattle.std.proofs.Common.{◌≡◌, length, sym, ap, ◌∙◌, Err, arith}
+use Rattle.std.proofs.lemmas.Bool.{eqb-true}
 use Rattle.kg_wire.proofs.JudgeLemmas.{nothing_begins}
 use Rattle.kg_wire.proofs.JudgedLemmas.{bad_when_over, bad_when_full, bad_when_crowded}
 use Rattle.kg_wire.proofs.judge.judge_within.Goals as goal
