@@ -53,7 +53,8 @@ pub fn is_hop_by_hop(headers: &Headers, field: &Header) -> bool
     is_among(&CONNECTION_NAMES, field) || headers.lists(b"connection", field.name.bytes())
 }
 
-fn is_among(names: &[&str], field: &Header) -> bool
+/// Has the field one of these names, given in any case?
+pub fn is_among(names: &[&str], field: &Header) -> bool
     ensures { result ≡ list_any (λ name. is_named name.now field.now) names.now }
 {
     names.iter().any(|name| field.name.same(name.as_bytes()))

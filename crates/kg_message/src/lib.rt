@@ -16,6 +16,6 @@ pub use crate::comma_list::{has_element, trim_blanks};
 pub use crate::gateway_message::message;
 pub use crate::header::Header;
 pub use crate::headers::Headers;
-pub use crate::hop_by_hop::{end_to_end, is_hop_by_hop};
+pub use crate::hop_by_hop::{end_to_end, is_among, is_hop_by_hop};
 pub use crate::request::Request;
 pub use crate::response::Response;
