@@ -14,7 +14,9 @@ pub struct Input<R> {
 
 impl<R> Input<R> {
     /// No fault is counted yet.
-    pub fn new(reader: R) -> Input<R> {
+    pub fn new(reader: R) -> Input<R>
+        ensures { result.faults ≡ 0 }
+    {
         Input { reader, faults: 0 }
     }
 }

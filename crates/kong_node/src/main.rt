@@ -17,14 +17,24 @@ use std::process::ExitCode;
 // The status of a run with other words.
 const OTHER_WORDS: u8 = 2;
 
+// The status of a run whose input could not be read.
+const READ_FAULT: u8 = 4;
+
 // The status of a run whose output could not be written.
 const WRITE_FAULT: u8 = 5;
 
 // The status of a run without memory.
 const OUT_OF_MEMORY: u8 = 6;
 
+// The status of a run whose last message was refused or cut.
+const BROKEN: u8 = 7;
+
 // How many bytes are asked of standard input at once.
 const PIECE: usize = 65_536;
+
+const USAGE: &str = "\
+usage: kong_node dry < FILE
+       kong_node --help | --version";
 
 const HELP: &str = "\
 usage: kong_node dry < FILE
@@ -39,13 +49,30 @@ dry   The first line of standard input declares services, routes, consumers and 
 Exit status of dry: 0 the requests were answered, up to the end of standard input, the first that
 asks for the end of the connection or the thousandth; 3 the first line was refused; 7 a message was
 refused (its reply is a 400) or cut; 4 a fault of standard input; 5 a fault of standard output;
-6 want of memory. Other words are 2.
+6 want of memory. Other words are 2. For 2 and 4 to 7 a line on standard error tells the reason.
 ";
 
 const VERSION: &str = "kong_node 0.1.0\n";
 
 fn main(rt: HostRuntime) -> ExitCode {
-    ExitCode::from(status(&rt))
+    let status = status(&rt);
+    if let Some(reason) = reason_of(status) {
+        // without standard error there is nobody to tell
+        let _ = rt.eprintln(reason);
+    }
+    ExitCode::from(status)
+}
+
+// Why the program ends with this status, where standard output doesn't tell.
+fn reason_of(status: u8) -> Option<&'static str> {
+    match status {
+        OTHER_WORDS => Some(USAGE),
+        READ_FAULT => Some("kong_node: standard input failed"),
+        WRITE_FAULT => Some("kong_node: standard output failed"),
+        OUT_OF_MEMORY => Some("kong_node: no memory, or a pattern too large to build"),
+        BROKEN => Some("kong_node: the last message was refused or cut off"),
+        _ => None,
+    }
 }
 
 // Runs the command that the program's words name.

@@ -14,7 +14,9 @@ pub struct Output<W> {
 
 impl<W> Output<W> {
     /// No fault is counted yet.
-    pub fn new(writer: W) -> Output<W> {
+    pub fn new(writer: W) -> Output<W>
+        ensures { result.faults ≡ 0 }
+    {
         Output { writer, faults: 0 }
     }
 }
