@@ -1,0 +1,2 @@
+mod DeclaredLemmas
+mod FaultLemmas
