@@ -9,16 +9,17 @@ use Rattle.kg_outside.specs.Moves.{with_front, with_end}
 use Rattle.kg_outside.proofs.Observed.{with_front-nil, with_front-append, with_end-nil, with_end-append}
 use Rattle.kg_router.specs.RouterRows.{RouterRows}
 use Rattle.kg_print.specs.Connection.{asks_for_end}
-use Rattle.kg_wire.specs.Messages.{Message, IsRequest, NeverBegins, BeginsNoRequest, print_message, request_of}
-use Rattle.kg_wire.specs.Reading.{ReaderState, Takes, Grows, Refuses, IsCut, IsEnded, IsNothing}
+use Rattle.kg_wire.specs.Messages.{Message, IsRequest, print_message, request_of}
+use Rattle.kg_wire.specs.Reading.{ReaderState, Takes, Grows, Refuses, IsEnded, IsNothing}
+use Rattle.kg_wire.specs.Refusals.{IsBad, IsCut}
+use Rattle.kg_wire.proofs.RefusalLemmas.{bad_stays}
 use Rattle.kg_wire.specs.declared.reader.ReadError.TheVariants.{Bad as BadMessage, Cut as CutMessage}
 use Rattle.kg_lone.specs.Answered.{Answered, AnsweredOn, AnswersAll, AnswersFront, EndsAhead, EndsWith}
-use Rattle.kg_lone.specs.DryText.{GoOn, asks, last_text, local_address, most_requests, texts}
+use Rattle.kg_lone.specs.DryText.{BeginsReply, GoOn, asks, last_text, local_address, most_requests, texts}
 use Rattle.kg_lone.specs.Fronts.{IsFront}
 use Rattle.kg_lone.specs.Plain.{bad_request_text, reply_to}
 use Rattle.kg_lone.specs.declared.dry.End.{End}
 use Rattle.kg_lone.specs.declared.dry.End.TheVariants.{Closed, Asked, Spent, Bad, Cut}
-use Rattle.kg_lone.proofs.EndLemmas.{all_on}
 
 -- one more reply at the end
 pub texts-push : (rows : RouterRows) (answered n : ℕ) (ms : List Message) (m : Message) → n ≡ answered + length ms
@@ -176,19 +177,19 @@ ends_asked rows Before Now a before now left later w0 w1 w2 n request time is fe
 
 -- between two requests
 pub stopped_between : (rows : RouterRows) (Read : List ℕ → Type 0) (a b before now : Option (List ℕ)) (n : ℕ)
-    → AnsweredOn rows Read a b before now n → n ≤ most_requests → AnswersFront rows Read a before now
+    → AnsweredOn rows Read a b before now n → n < most_requests → AnswersFront rows Read a before now
 stopped_between rows Read a b before now n is few = record {
   messages = is.messages;
   few = let e = is.counted in omega arith;
-  on = all_on is.messages is.on;
+  on = is.on;
   times = is.answered.times;
   read = is.answered.read;
   each = is.answered.each;
   ahead = b;
   whole = is.answered.whole;
-  front = texts rows 0 is.messages;
-  begins = inl ([], sym (append-nil (texts rows 0 is.messages)));
-  written = is.answered.written;
+  part = [];
+  stops = λ rest seen. inl (is.answered.one_each, refl);
+  written = is.answered.written ∙ ap (with_end before) (sym (append-nil (texts rows 0 is.messages)));
 }
 
 -- before the first request
@@ -196,6 +197,17 @@ pub stopped_at_once : (rows : RouterRows) (Read : List ℕ → Type 0) (ahead wr
     → AnswersFront rows Read ahead written written
 stopped_at_once rows Read ahead written read =
     stopped_between rows Read ahead ahead written written 0 (none_answered rows Read ahead ahead written read refl) (omega arith)
+
+-- what is observable ahead begins with the request that the reader took
+taken_stands : (before now : ReaderState) (left later : Option (List ℕ)) (request : Request) (t : Takes before now left later request)
+    → (rest : List ℕ) → with_front before.held left ≡ Some rest → (behind : List ℕ) × (rest ≡ print_message t.message ++ behind)
+taken_stands before now left later request t rest seen =
+    by_cases (with_front now.held later) (sym seen ∙ taken_next before now left later request t)
+  where
+    by_cases : (ahead : Option (List ℕ)) → Some rest ≡ with_front (print_message t.message) ahead
+        → (behind : List ℕ) × (rest ≡ print_message t.message ++ behind)
+    by_cases None e = absurd (cc)
+    by_cases (Some behind) e = (behind, cc)
 
 -- in the reply to the request that the reader took
 pub stopped_taken : (rows : RouterRows) (Before Now : List ℕ → Type 0) (a : Option (List ℕ)) (before now : ReaderState) (left later w0 w1 w2 : Option (List ℕ))
@@ -206,43 +218,52 @@ pub stopped_taken : (rows : RouterRows) (Before Now : List ℕ → Type 0) (a : 
     → IsFront front (reply_to rows (n + 1 == most_requests) request) → w2 ≡ with_end w1 front
     → AnswersFront rows Now a w0 w2
 stopped_taken rows Before Now a before now left later w0 w1 w2 n request time front is few here t on begins written = record {
-  messages = is.messages ++ t.message ∷ [];
-  few = simp length-append (let e = is.counted in omega arith);
-  on = record { before = is.messages; last = t.message ∷ []; joined = refl; on = is.on; one = omega arith };
+  messages = is.messages;
+  few = let e = is.counted in omega arith;
+  on = is.on;
   times = is.answered.times ++ time ∷ [];
   read = on is.answered.times is.answered.read;
-  each = each-push IsRequest is.messages t.message is.answered.each t.is;
-  ahead = with_front now.held later;
-  whole = moved_on a (with_front before.held left) (with_front now.held later) is.messages t.message is.answered.whole (taken_next before now left later request t);
-  front = texts rows 0 is.messages ++ front;
-  begins = inl (
-    begins.0,
-    texts-push rows 0 n is.messages t.message (let e = is.counted in omega arith)
-        ∙ ap (λ t. texts rows 0 is.messages ++ t)
-        (ap (reply_to rows (n + 1 == most_requests)) (sym (taken_means before now left later request t here)) ∙ begins.1)
-        ∙ sym (append_assoc (texts rows 0 is.messages) front begins.0),
-  );
+  each = is.answered.each;
+  ahead = with_front before.held left;
+  whole = is.answered.whole;
+  part = front;
+  stops = λ rest seen. inr (inl (
+    simp length-append (let e = is.answered.one_each in omega arith),
+    begun rest (taken_stands before now left later request t rest seen),
+  ));
   written = written ∙ ap (λ w. with_end w front) is.answered.written ∙ sym (with_end-append w0 (texts rows 0 is.messages) front);
 }
+  where
+    begun : (rest : List ℕ) → (behind : List ℕ) × (rest ≡ print_message t.message ++ behind) → BeginsReply rows (length is.messages) rest front
+    begun rest (behind, stands) = record {
+      next = t.message;
+      behind = behind;
+      is = t.is;
+      stands = stands;
+      begins =
+          subst (λ k. IsFront front (reply_to rows (k + 1 == most_requests) (request_of local_address t.message))) (sym is.counted)
+          (subst (λ q. IsFront front (reply_to rows (n + 1 == most_requests) q)) (taken_means before now left later request t here) begins);
+    }
+
+-- the bytes ahead are refused, wherever they are observable
+abbrev pub BadAhead : Option (List ℕ) → Type 0
+BadAhead ahead = (rest : List ℕ) → ahead ≡ Some rest → IsBad rest
 
 -- in the text that answers a refused message
 pub stopped_bad : (rows : RouterRows) (Read : List ℕ → Type 0) (a b w0 w1 w2 : Option (List ℕ)) (n : ℕ) (front : List ℕ)
-    → (is : AnsweredOn rows Read a b w0 w1 n) → n ≤ most_requests → EndsAhead Bad is.messages b
+    → AnsweredOn rows Read a b w0 w1 n → n < most_requests → BadAhead b
     → IsFront front bad_request_text → w2 ≡ with_end w1 front → AnswersFront rows Read a w0 w2
 stopped_bad rows Read a b w0 w1 w2 n front is few bad begins written = record {
   messages = is.messages;
   few = let e = is.counted in omega arith;
-  on = all_on is.messages is.on;
+  on = is.on;
   times = is.answered.times;
   read = is.answered.read;
   each = is.answered.each;
   ahead = b;
   whole = is.answered.whole;
-  front = texts rows 0 is.messages ++ front;
-  begins = inr (
-    bad,
-    (begins.0, ap (λ t. texts rows 0 is.messages ++ t) begins.1 ∙ sym (append_assoc (texts rows 0 is.messages) front begins.0)),
-  );
+  part = front;
+  stops = λ rest seen. inr (inr (is.answered.one_each, bad rest seen, begins));
   written = written ∙ ap (λ w. with_end w front) is.answered.written ∙ sym (with_end-append w0 (texts rows 0 is.messages) front);
 }
 
@@ -288,20 +309,22 @@ grown_ahead held now left later grows =
     ∙ sym (with_front-append held grows.piece later)
     ∙ ap (λ bytes. with_front bytes later) (sym grows.grown)
 
--- the bytes ahead never begin a request
-pub bad_ahead : (ms : List Message) (n at place : ℕ) (held now : List ℕ) (left later : Option (List ℕ)) → GoOn ms → length ms ≡ n
-    → n < most_requests → Grows held now left later → Refuses at now later (BadMessage place) → EndsAhead Bad ms (with_front held left)
-bad_ahead ms n at place held now left later on counted few grows bad rest ahead =
-    let ends = by_cases rest later (sym ahead ∙ grown_ahead held now left later grows) in
-    (on, let e = counted in omega arith, ends.0, ends.1)
+-- the bytes ahead are refused
+pub refused_ahead : (at place : ℕ) (held now : List ℕ) (left later : Option (List ℕ))
+    → Grows held now left later → Refuses at now later (BadMessage place) → BadAhead (with_front held left)
+refused_ahead at place held now left later grows bad rest ahead =
+    by_cases later (sym ahead ∙ grown_ahead held now left later grows)
   where
-    by_cases : (rest : List ℕ) (later : Option (List ℕ)) → Some rest ≡ with_front now later → (0 < length rest) × NeverBegins rest
-    by_cases rest None e = absurd (cc)
-    by_cases rest (Some more) e =
-        let same : rest ≡ now ++ more = cc in (
-          rw same (simp length-append (let some = bad.1 in omega arith)),
-          λ further. subst BeginsNoRequest (sym (ap (λ t. t ++ further) same ∙ append_assoc now more further)) (bad.2 (more ++ further)),
-        )
+    by_cases : (later : Option (List ℕ)) → Some rest ≡ with_front now later → IsBad rest
+    by_cases None e = absurd (cc)
+    by_cases (Some more) e =
+        let same : rest ≡ now ++ more = cc in
+        subst IsBad (sym same) (bad_stays now more bad.1)
+
+-- so the answering ends with a refused message
+pub bad_ahead : (ms : List Message) (n : ℕ) (ahead : Option (List ℕ)) → GoOn ms → length ms ≡ n → n < most_requests → BadAhead ahead
+    → EndsAhead Bad ms ahead
+bad_ahead ms n ahead on counted few bad rest seen = (on, let e = counted in omega arith, bad rest seen)
 
 -- the bytes ahead are cut short
 pub cut_ahead : (ms : List Message) (n at have : ℕ) (held now : List ℕ) (left later : Option (List ℕ)) → GoOn ms → length ms ≡ n

@@ -1,5 +1,5 @@
 -- What the first line is answered.
-use Rattle.std.proofs.Common.{◌≡◌, ◌≢◌, ℕ, ◌≤◌, true, false, not, List, [], ◌++◌, Option, Result, Ok, Err, IfOk, IfErr, length, refl, sym, ap, subst, ◌∙◌}
+use Rattle.std.proofs.Common.{◌≡◌, ℕ, ◌≤◌, ◌⊎◌, inl, inr, true, false, not, List, [], ◌++◌, Option, Result, Ok, Err, IfOk, IfErr, length, refl, sym, ap, subst, ◌∙◌}
 use Rattle.std.specs.Prelude.{nat_lt}
 use Rattle.std.proofs.lemmas.Bool.{le-ltb, lt-ltb}
 use Rattle.kg_declare.specs.Histories.{AreInsertions}
@@ -9,12 +9,12 @@ use Rattle.kg_declare.specs.declared.error.DeclareError.{DeclareError}
 use Rattle.kg_declare.specs.declared.error.DeclareError.TheVariants as error
 use Rattle.kg_message.specs.declared.response.Response.{Response}
 use Rattle.kg_outside.specs.Moves.{with_end}
-use Rattle.kg_outside.proofs.Observed.{with_end-nil}
 use Rattle.kg_row_values.specs.declared.command.Command.{Command}
-use Rattle.kg_lone.specs.FirstCommands.{AnswersFirst, AnswersLine, Decides, GivesCommands, RefusesWith, first_outcome, first_text, most_line, not_built, read_outcome, refusal_line, run_outcome, without_plugins}
+use Rattle.kg_lone.specs.FirstCommands.{AnswersFirst, FirstLineCall, GivesCommands, IsRefused, first_outcome, most_line, not_built, refusal_line, run_outcome, without_plugins}
 use Rattle.kg_lone.specs.FirstLine.{GivesLine, line_of}
 use Rattle.kg_lone.specs.Fronts.{IsFront}
 use Rattle.kg_lone.specs.InsertedRows.{has_plugin}
+use Rattle.kg_lone.specs.LineSteps.{AnswersLine, RefusesWith, read_outcome}
 use Rattle.kg_lone.specs.declared.line.FirstLine.{FirstLine}
 use Rattle.kg_lone.specs.declared.line.FirstLine.TheVariants.{Whole, TooLong}
 use Rattle.kg_lone.proofs.InsertedLemmas.{plugins_are}
@@ -62,42 +62,54 @@ accepts line now limit drawn commands (Err error.NoMemory) are is ok err = tt
 -- ---- what the call is answered
 
 -- the commands, and what is left
-pub gives_commands : (bytes : List ℕ) (line : FirstLine) (left : Option (List ℕ)) (now limit : ℕ) (drawn : List (List ℕ)) (commands : List Command)
+pub gives_commands : (now limit : ℕ) (bytes : List ℕ) (left before written : Option (List ℕ)) (drawn : List (List ℕ))
+    (line : FirstLine) (commands : List Command)
     → GivesLine most_line bytes left line → AnswersLine (Ok commands) (read_outcome line now limit) drawn
-    → GivesCommands now limit bytes left drawn commands
-gives_commands bytes (Whole line) left now limit drawn commands first is = record {
+    → GivesCommands (record { now = now; limit = limit; bytes = bytes; left = left; before = before; written = written; drawn = drawn }) commands
+gives_commands now limit bytes left before written drawn (Whole line) commands first is = record {
   declared = λ more. read_is_first bytes (Whole line) left now limit (drawn ++ more) first ∙ is more;
   after = first.after;
 }
-gives_commands bytes TooLong left now limit drawn commands first is =
+gives_commands now limit bytes left before written drawn TooLong commands first is =
     absurd (let no = is [] in cc)
 
 -- the refusal, as far as it was written
-pub tells_refusal : (bytes : List ℕ) (line : FirstLine) (left before after : Option (List ℕ)) (now limit : ℕ) (drawn : List (List ℕ)) (response : Response) (status : ℕ)
+pub tells_refusal : (now limit : ℕ) (bytes : List ℕ) (left before written : Option (List ℕ)) (drawn : List (List ℕ))
+    (line : FirstLine) (response : Response) (status : ℕ)
     → GivesLine most_line bytes left line → AnswersLine (Err (error.Refused response)) (read_outcome line now limit) drawn
-    → (status ≡ 3 → after ≡ with_end before (refusal_line response))
-    → (status ≢ 3 → (front : List ℕ) × IsFront front (refusal_line response) × (after ≡ with_end before front))
-    → AnswersFirst now limit bytes left before after (Err status) drawn
-tells_refusal bytes line left before after now limit drawn response status first is whole part = (
-  λ same. record { refused = refused; declared = declared; all = refl; written = whole same },
-  λ other. let front = part other in
-      record { front = front.0; begins = λ more. subst (λ answer. IsFront front.0 (first_text answer)) (sym (declared more)) front.1; written = front.2 },
-)
+    → (status ≡ 3) ⊎ (status ≡ 5) ⊎ (status ≡ 6)
+    → (status ≡ 3 → written ≡ with_end before (refusal_line response))
+    → (status ≡ 5 → (front : List ℕ) × IsFront front (refusal_line response) × (written ≡ with_end before front))
+    → (status ≡ 6 → written ≡ before)
+    → AnswersFirst (record { now = now; limit = limit; bytes = bytes; left = left; before = before; written = written; drawn = drawn }) (Err status)
+tells_refusal now limit bytes left before written drawn line response status first is known whole part none = by_cases known
   where
-    refused : Refused
-    refused = record { response = response; drawn = length drawn }
+    call : FirstLineCall
+    call = record { now = now; limit = limit; bytes = bytes; left = left; before = before; written = written; drawn = drawn }
 
-    declared : Decides (first_outcome (line_of bytes) now limit) drawn (Err refused)
-    declared more = read_is_first bytes line left now limit (drawn ++ more) first ∙ is more
+    refused : IsRefused (line_of bytes) now limit drawn response
+    refused more = read_is_first bytes line left now limit (drawn ++ more) first ∙ is more
 
--- nothing was written
-pub tells_nothing : (bytes : List ℕ) (left before : Option (List ℕ)) (now limit : ℕ) (drawn : List (List ℕ)) (status : ℕ) → status ≢ 3
-    → AnswersFirst now limit bytes left before before (Err status) drawn
-tells_nothing bytes left before now limit drawn status other = (
-  λ same. absurd (other same),
-  λ differs. record {
-    front = [];
-    begins = λ more. (first_text (first_outcome (line_of bytes) now limit (drawn ++ more)), refl);
-    written = sym (with_end-nil before);
-  },
-)
+    by_cases : (status ≡ 3) ⊎ (status ≡ 5) ⊎ (status ≡ 6) → AnswersFirst call (Err status)
+    by_cases (inl three) = inl (three, record { response = response; refused = refused; written = whole three })
+    by_cases (inr (inl five)) =
+        let front = part five in
+        inr (inr (inr (
+          five,
+          record {
+            front = front.0;
+            begins = record { response = response; refused = refused; begins = front.1 };
+            written = front.2;
+          },
+        )))
+    by_cases (inr (inr six)) = inr (inr (inl (six, none six)))
+
+-- nothing was written for want of memory
+pub tells_nothing : (now limit : ℕ) (bytes : List ℕ) (left written : Option (List ℕ)) (drawn : List (List ℕ))
+    → AnswersFirst (record { now = now; limit = limit; bytes = bytes; left = left; before = written; written = written; drawn = drawn }) (Err 6)
+tells_nothing now limit bytes left written drawn = inr (inr (inl (refl, refl)))
+
+-- and no id was drawn where the line could not be read
+pub tells_unread : (now limit : ℕ) (bytes : List ℕ) (left written : Option (List ℕ))
+    → AnswersFirst (record { now = now; limit = limit; bytes = bytes; left = left; before = written; written = written; drawn = [] }) (Err 4)
+tells_unread now limit bytes left written = inr (inl (refl, refl, refl))

@@ -1,27 +1,31 @@
 -- The text of a dry run: it is determined by what was read, and a run that was cut short wrote a front of it.
-use Rattle.std.proofs.Common.{◌≡◌, ◌≢◌, ℕ, ◌+◌, ◌≤◌, ◌==◌, ◌⊎◌, inl, inr, List, [], ◌∷◌, ◌++◌, Option, Some, None, Result, Ok, Err, length, refl, sym, ap, ◌∙◌, subst, arith}
-use Rattle.std.proofs.lemmas.List.{append_assoc, append-nil}
-use Rattle.std.specs.List.{flat_map}
+use Rattle.std.proofs.Common.{◌≡◌, ℕ, ◌+◌, ◌≤◌, ◌<◌, ◌==◌, ◌⊎◌, inl, inr, List, [], ◌∷◌, ◌++◌, Option, Some, None, Result, Ok, Err, length, refl, sym, ap, ◌∙◌, subst, arith}
+use Rattle.std.proofs.lemmas.List.{append_assoc, append-nil, length-append}
+use Rattle.std.proofs.lemmas.Grind.{flat_map-append}
+use Rattle.std.specs.List.{flat_map, AllByRecursion}
 use Rattle.kg_outside.specs.Moves.{with_front, with_end}
-use Rattle.kg_outside.proofs.Observed.{with_end-append}
+use Rattle.kg_outside.proofs.Observed.{with_end-append, with_end-nil}
 use Rattle.kg_router.specs.RouterRows.{RouterRows}
-use Rattle.kg_wire.specs.Messages.{Message, IsReading, BeginsNoRequest, print_message, request_of}
+use Rattle.kg_wire.specs.Messages.{Message, IsReading, IsRequest, print_message, request_of}
 use Rattle.kg_wire.proofs.MessageLemmas.{reading_front, reading_most, reading_same}
+use Rattle.kg_wire.specs.Refusals.{IsBad}
+use Rattle.kg_wire.proofs.RefusalLemmas.{bad_begins_none}
 use Rattle.kg_declare.specs.Outcome.{Progress, Refused as RefusedLine}
 use Rattle.kg_declare.specs.Steps.{progress_after}
 use Rattle.kg_row_values.specs.Rows.{rows_after}
 use Rattle.kg_row_values.specs.declared.command.Command.{Command}
-use Rattle.kg_lone.specs.Answered.{AnswersFront, EndsWith, FrontOfReplies}
-use Rattle.kg_lone.specs.DryRun.{IsBroken, IsCutShort, IsSameText, IsWhole}
-use Rattle.kg_lone.specs.DryText.{BeginsText, EndsSo, IsDryText, WritesFront, WritesText, last_text, local_address, most_requests, most_rows, status_of, texts}
-use Rattle.kg_lone.specs.FirstCommands.{Decides, GivesCommands, IsFirstStatus, WritesFirstFront, WritesRefusal, first_outcome, first_text, refusal_line}
+use Rattle.kg_lone.specs.Answered.{AnswersFront, EndsWith}
+use Rattle.kg_lone.specs.DryRun.{IsCutShort, IsWhole}
+use Rattle.kg_lone.specs.DryText.{BeginsReply, EndsSo, GoOn, IsAnsweredRun, IsCutText, IsDryText, StopsAtFirst, StopsBehind, StopsIn, WritesFront, WritesText, last_text, local_address, most_requests, most_rows, status_of, texts}
+use Rattle.kg_lone.specs.FirstCommands.{AnswersFirst, BeginsRefusal, Decides, FirstLineCall, GivesCommands, IsFirstStatus, StopsFirst, WritesRefusal, first_outcome, refusal_line}
 use Rattle.kg_lone.specs.FirstLine.{line_of, after_line}
 use Rattle.kg_lone.specs.Fronts.{IsFront}
 use Rattle.kg_lone.specs.InsertedRows.{router_rows}
 use Rattle.kg_lone.specs.Plain.{bad_request_text, reply_to}
 use Rattle.kg_lone.specs.declared.dry.End.{End}
 use Rattle.kg_lone.specs.declared.dry.End.TheVariants.{Bad}
-use Rattle.kg_lone.proofs.EndLemmas.{front_of_whole, is_last, one_end, same_whole}
+use Rattle.kg_lone.proofs.AnsweredLemmas.{each-push, texts-push}
+use Rattle.kg_lone.proofs.EndLemmas.{OnlyLastMayAsk, all_on, front_of_whole, is_last, one_end, same_whole}
 
 -- one outcome isn't two
 one_outcome : {P Q : Type 0} {x : Result P Q} {p q : P} → x ≡ Ok p → x ≡ Ok q → p ≡ q
@@ -71,124 +75,95 @@ first_time a b xs ys e = (cc, cc)
 front_within : (a b c end : List ℕ) → IsFront a b → IsFront b c → IsFront a (c ++ end)
 front_within a b c end front within = front_front a b (c ++ end) front (within.0 ++ end, ap (λ t. t ++ end) within.1 ∙ append_assoc b within.0 end)
 
+-- nothing was written for the first line
+first_nothing : (Drew : List (List ℕ) → Type 0) (Read : List ℕ → Type 0) (call : FirstLineCall)
+    → Drew call.drawn → Read (call.now ∷ []) → call.written ≡ call.before → WritesFront Drew Read call.bytes call.before call.written
+first_nothing Drew Read call drew read same = record {
+  drawn = call.drawn;
+  times = call.now ∷ [];
+  front = [];
+  drew = drew;
+  read = read;
+  meant = inl (record { now = call.now; clock = refl; written = inl refl });
+  written = same ∙ sym (with_end-nil call.before);
+}
+
 -- ---- a run that was cut short
 
--- what was written for the first line
-pub first_front : (Drew : List (List ℕ) → Type 0) (Read : List ℕ → Type 0) (bytes : List ℕ) (before after : Option (List ℕ))
-    (drawn : List (List ℕ)) (time : ℕ) → Drew drawn → Read (time ∷ [])
-    → WritesFirstFront time most_rows bytes before after drawn → WritesFront Drew Read bytes before after
-first_front Drew Read bytes before after drawn time drew read is = record {
-  drawn = drawn;
-  times = time ∷ [];
+-- in the first line
+pub first_front : (Drew : List (List ℕ) → Type 0) (Read : List ℕ → Type 0) (call : FirstLineCall) (status : ℕ)
+    → call.limit ≡ most_rows → Drew call.drawn → Read (call.now ∷ [])
+    → StopsFirst call status → WritesFront Drew Read call.bytes call.before call.written
+first_front Drew Read call status most drew read (inl (four, none, same)) = first_nothing Drew Read call drew read same
+first_front Drew Read call status most drew read (inr (inl (six, same))) = first_nothing Drew Read call drew read same
+first_front Drew Read call status most drew read (inr (inr (five, is))) = record {
+  drawn = call.drawn;
+  times = call.now ∷ [];
   front = is.front;
   drew = drew;
   read = read;
-  begins = λ more later status text meant. by_cases more later status text meant;
+  meant = inl (record {
+    now = call.now;
+    clock = refl;
+    written = inr (subst (λ limit. BeginsRefusal (line_of call.bytes) call.now limit call.drawn is.front) most is.begins);
+  });
   written = is.written;
 }
-  where
-    by_cases : (more : List (List ℕ)) (later : List ℕ) (status : ℕ) (text : List ℕ)
-        → IsDryText bytes (drawn ++ more) ((time ∷ []) ++ later) status text → BeginsText bytes (drawn ++ more) ((time ∷ []) ++ later) is.front
-    by_cases more later status text (inl a) =
-        let now = first_time time a.now later a.later a.clock in
-        let none : IsFront is.front [] = subst (λ answer. IsFront is.front (first_text answer)) (at_time (line_of bytes) a.now time (drawn ++ more) (Ok a.progress) (sym now.0) a.declared) (is.begins more) in
-        record { status = status; text = text; meant = inl a; front_of = front_front is.front [] text none (text, refl) }
-    by_cases more later status text (inr r) =
-        let now = first_time time r.now later [] r.clock in
-        let begins : IsFront is.front (refusal_line r.refused.response) = subst (λ answer. IsFront is.front (first_text answer)) (at_time (line_of bytes) r.now time (drawn ++ more) (Err r.refused) (sym now.0) r.declared) (is.begins more) in
-        record { status = status; text = text; meant = inr r; front_of = (begins.0, r.written ∙ begins.1) }
 
 -- what was written of the replies
 pub replies_front : (Drew : List (List ℕ) → Type 0) (Read Later : List ℕ → Type 0) (bytes : List ℕ) (left before written : Option (List ℕ))
     (now : ℕ) (drawn : List (List ℕ)) (progress : Progress)
-    → Decides (first_outcome (line_of bytes) now most_rows) drawn (Ok progress) → left ≡ Some (after_line bytes) → Drew drawn
+    → Decides (line_of bytes) now most_rows drawn (Ok progress) → progress.drawn ≡ length drawn → left ≡ Some (after_line bytes) → Drew drawn
     → ((times : List ℕ) → Later times → Read (now ∷ times))
     → AnswersFront (router_rows progress.rows) Later left before written → WritesFront Drew Read bytes before written
-replies_front Drew Read Later bytes left before written now drawn progress declared told drew on is = record {
-  drawn = drawn;
-  times = now ∷ is.times;
-  front = is.front;
-  drew = drew;
-  read = on is.times is.read;
-  begins = λ more later status text meant. by_cases more later status text meant;
-  written = is.written;
-}
-  where
-    by_cases : (more : List (List ℕ)) (later : List ℕ) (status : ℕ) (text : List ℕ)
-        → IsDryText bytes (drawn ++ more) ((now ∷ is.times) ++ later) status text
-        → BeginsText bytes (drawn ++ more) ((now ∷ is.times) ++ later) is.front
-    by_cases more later status text (inr r) =
-        absurd (not_both (at_time (line_of bytes) now r.now (drawn ++ more) (Ok progress)
-        (first_time now r.now (is.times ++ later) [] r.clock).0 (declared more)) r.declared)
-    by_cases more later status text (inl a) =
-        let time = first_time now a.now (is.times ++ later) a.later a.clock in
-        let same : progress ≡ a.progress = one_outcome (at_time (line_of bytes) now a.now (drawn ++ more) (Ok progress) time.0 (declared more)) a.declared in
-        let routes : router_rows progress.rows ≡ router_rows a.progress.rows = ap (λ (p : Progress). router_rows p.rows) same in
-        let ahead = seen_ahead (after_line bytes) (flat_map print_message is.messages) left is.ahead told is.whole in
-        let read : IsReading (after_line bytes) is.messages ahead.0 = record { whole = ahead.2; each = is.each } in
-        let few = front_of_whole (after_line bytes) is.messages a.messages ahead.0 a.rest read a.reading is.few is.on (is_last a.end a.messages a.rest a.ends) in
-        let front = reading_front (after_line bytes) is.messages a.messages ahead.0 a.rest read a.reading few in
-        let all = texts_front (router_rows a.progress.rows) is.messages a.messages (front.0, front.1) in
-        written_so (subst (λ r. FrontOfReplies r is.messages is.ahead is.front) routes is.begins) all few read ahead.1
-      where
-        written_so : FrontOfReplies (router_rows a.progress.rows) is.messages is.ahead is.front
-            → IsFront (texts (router_rows a.progress.rows) 0 is.messages) (texts (router_rows a.progress.rows) 0 a.messages) → length is.messages ≤ length a.messages
-            → {rest : List ℕ} → IsReading (after_line bytes) is.messages rest → is.ahead ≡ Some rest
-            → BeginsText bytes (drawn ++ more) ((now ∷ is.times) ++ later) is.front
-        written_so (inl begins) all few read seen = record {
-          status = status;
-          text = text;
-          meant = inl a;
-          front_of =
-              let begun = front_within is.front (texts (router_rows a.progress.rows) 0 is.messages) (texts (router_rows a.progress.rows) 0 a.messages) (last_text a.end) begins all in
-              (begun.0, a.written ∙ begun.1);
-        }
-        written_so (inr (bad, begins)) all few {rest} read seen =
-            let ends = bad rest seen in
-            let none : BeginsNoRequest rest = subst BeginsNoRequest (append-nil rest) (ends.3 []) in
-            let most = reading_most (after_line bytes) is.messages a.messages rest a.rest read a.reading none in
-            let same = reading_same (after_line bytes) is.messages a.messages rest a.rest read a.reading (omega arith) in
-            record {
-              status = 7;
-              text = texts (router_rows a.progress.rows) 0 a.messages ++ last_text Bad;
-              meant = inl (record {
-                now = a.now;
-                later = a.later;
-                clock = a.clock;
-                progress = a.progress;
-                declared = a.declared;
-                all = a.all;
-                messages = a.messages;
-                rest = a.rest;
-                reading = a.reading;
-                most = a.most;
-                end = Bad;
-                ends = subst (EndsSo Bad a.messages) same.1 (subst (λ ms. EndsSo Bad ms rest) same.0 ends);
-                one_each = a.one_each;
-                written = refl;
-                ending = refl;
-              });
-              front_of = (begins.0, ap (λ ms. texts (router_rows a.progress.rows) 0 ms ++ last_text Bad) (sym same.0) ∙ begins.1);
-            }
+replies_front Drew Read Later bytes left before written now drawn progress declared all told drew on is =
+    let ahead = seen_ahead (after_line bytes) (flat_map print_message is.messages) left is.ahead told is.whole in
+    record {
+      drawn = drawn;
+      times = now ∷ is.times;
+      front = texts (router_rows progress.rows) 0 is.messages ++ is.part;
+      drew = drew;
+      read = on is.times is.read;
+      meant = inr (record {
+        now = now;
+        later = is.times;
+        clock = refl;
+        progress = progress;
+        declared = declared;
+        all = all;
+        messages = is.messages;
+        rest = ahead.0;
+        reading = record { whole = ahead.2; each = is.each };
+        on = is.on;
+        few = is.few;
+        part = is.part;
+        stops = is.stops ahead.0 ahead.1;
+        written = refl;
+      });
+      written = is.written;
+    }
 
 -- ---- a whole run
 
 -- the refusal was written
-pub refusal_written : (Drew : List (List ℕ) → Type 0) (Read : List ℕ → Type 0) (bytes : List ℕ) (before after : Option (List ℕ))
-    (drawn : List (List ℕ)) (time : ℕ) → Drew drawn → Read (time ∷ [])
-    → WritesRefusal time most_rows bytes before after drawn → WritesText Drew Read bytes before after 3
-refusal_written Drew Read bytes before after drawn time drew read is = record {
-  drawn = drawn;
-  times = time ∷ [];
-  text = refusal_line is.refused.response;
+pub refusal_written : (Drew : List (List ℕ) → Type 0) (Read : List ℕ → Type 0) (call : FirstLineCall)
+    → call.limit ≡ most_rows → Drew call.drawn → Read (call.now ∷ [])
+    → WritesRefusal call → WritesText Drew Read call.bytes call.before call.written 3
+refusal_written Drew Read call most drew read is = record {
+  drawn = call.drawn;
+  times = call.now ∷ [];
+  text = refusal_line is.response;
   drew = drew;
   read = read;
   meant = inr (record {
-    now = time;
+    now = call.now;
     clock = refl;
-    refused = is.refused;
-    declared = ap (first_outcome (line_of bytes) time most_rows) (sym (append-nil drawn)) ∙ is.declared [];
-    all = is.all;
+    refused = record { response = is.response; drawn = length call.drawn };
+    declared =
+        ap (λ limit. first_outcome (line_of call.bytes) call.now limit call.drawn) (sym most)
+        ∙ ap (first_outcome (line_of call.bytes) call.now call.limit) (sym (append-nil call.drawn))
+        ∙ is.refused [];
+    all = refl;
     written = refl;
     ending = refl;
   });
@@ -198,7 +173,7 @@ refusal_written Drew Read bytes before after drawn time drew read is = record {
 -- the replies were written
 pub replies_written : (Drew : List (List ℕ) → Type 0) (Read Later : List ℕ → Type 0) (bytes : List ℕ) (left before written : Option (List ℕ))
     (now : ℕ) (drawn : List (List ℕ)) (progress : Progress) (status : ℕ)
-    → Decides (first_outcome (line_of bytes) now most_rows) drawn (Ok progress) → progress.drawn ≡ length drawn
+    → Decides (line_of bytes) now most_rows drawn (Ok progress) → progress.drawn ≡ length drawn
     → left ≡ Some (after_line bytes) → Drew drawn
     → ((times : List ℕ) → Later times → Read (now ∷ times))
     → EndsWith (router_rows progress.rows) Later left before written status → WritesText Drew Read bytes before written status
@@ -238,42 +213,17 @@ replies_written Drew Read Later bytes left before written now drawn progress sta
 -- of the statuses and texts of two runs
 pub record AreAlike (status : ℕ) (text : List ℕ) (code : ℕ) (other : List ℕ) : Type 0 where
   pub statuses : status ≡ code
-  pub texts : IsSameText status text other
+  pub texts : text ≡ other
 
 -- the texts behind some replies at one end
 same_ends : (replies : List ℕ) (end last : End) (status code : ℕ) (text other : List ℕ) → status ≡ status_of end → code ≡ status_of last
     → text ≡ replies ++ last_text end → other ≡ replies ++ last_text last → end ≡ last → AreAlike status text code other
 same_ends replies end last status code text other is also mine yours same = record {
   statuses = is ∙ ap status_of same ∙ sym also;
-  texts = inl (mine ∙ ap (λ e. replies ++ last_text e) same ∙ sym yours);
+  texts = mine ∙ ap (λ e. replies ++ last_text e) same ∙ sym yours;
 }
 
--- at two, which are one or both tell of a broken message
-pub alike_ends : (replies : List ℕ) (end last : End) (status code : ℕ) (text other : List ℕ) → status ≡ status_of end → code ≡ status_of last
-    → text ≡ replies ++ last_text end → other ≡ replies ++ last_text last → (end ≡ last) ⊎ (IsBroken end × IsBroken last)
-    → AreAlike status text code other
-alike_ends replies end last status code text other is also mine yours (inl same) =
-    same_ends replies end last status code text other is also mine yours same
-alike_ends replies end last status code text other is also mine yours (inr (inl bad, inl worse)) =
-    same_ends replies end last status code text other is also mine yours (bad ∙ sym worse)
-alike_ends replies end last status code text other is also mine yours (inr (inr cut, inr short)) =
-    same_ends replies end last status code text other is also mine yours (cut ∙ sym short)
-alike_ends replies end last status code text other is also mine yours (inr (inl bad, inr cut)) =
-    let seven : status ≡ 7 = is ∙ ap status_of bad in
-    let bare : other ≡ replies = yours ∙ ap (λ e. replies ++ last_text e) cut ∙ append-nil replies in
-    record {
-      statuses = seven ∙ sym (also ∙ ap status_of cut);
-      texts = inr (seven, inl (mine ∙ ap (λ e. replies ++ last_text e) bad ∙ ap (λ t. t ++ bad_request_text) (sym bare)));
-    }
-alike_ends replies end last status code text other is also mine yours (inr (inr cut, inl bad)) =
-    let seven : status ≡ 7 = is ∙ ap status_of cut in
-    let bare : text ≡ replies = mine ∙ ap (λ e. replies ++ last_text e) cut ∙ append-nil replies in
-    record {
-      statuses = seven ∙ sym (also ∙ ap status_of bad);
-      texts = inr (seven, inr (yours ∙ ap (λ e. replies ++ last_text e) bad ∙ ap (λ t. t ++ bad_request_text) (sym bare)));
-    }
-
--- the statuses are one, and the texts differ by the 400 of a refused message at most
+-- the statuses and the texts are one
 pub alike : (bytes : List ℕ) (drawn : List (List ℕ)) (times : List ℕ) (status : ℕ) (text : List ℕ) (code : ℕ) (other : List ℕ)
     → IsDryText bytes drawn times status text → IsDryText bytes drawn times code other → AreAlike status text code other
 alike bytes drawn times status text code other (inl a) (inr r) =
@@ -287,18 +237,120 @@ alike bytes drawn times status text code other (inr r) (inr s) =
     let same : r.refused ≡ s.refused = one_refusal (at_time (line_of bytes) r.now s.now drawn (Err r.refused) time.0 r.declared) s.declared in
     record {
       statuses = r.ending ∙ sym s.ending;
-      texts = inl (r.written ∙ ap (λ (e : RefusedLine). refusal_line e.response) same ∙ sym s.written);
+      texts = r.written ∙ ap (λ (e : RefusedLine). refusal_line e.response) same ∙ sym s.written;
     }
 alike bytes drawn times status text code other (inl a) (inl b) =
     let time = first_time a.now b.now a.later b.later (sym a.clock ∙ b.clock) in
     let rows : a.progress ≡ b.progress = one_outcome (at_time (line_of bytes) a.now b.now drawn (Ok a.progress) time.0 a.declared) b.declared in
     let same = same_whole (after_line bytes) a.messages b.messages a.rest b.rest a.end b.end a.reading b.reading a.most b.most a.ends b.ends in
     let ends = subst (EndsSo b.end a.messages) (sym same.1) (subst (λ ms. EndsSo b.end ms b.rest) (sym same.0) b.ends) in
-    alike_ends (texts (router_rows a.progress.rows) 0 a.messages) a.end b.end status code text other a.ending b.ending a.written
+    same_ends (texts (router_rows a.progress.rows) 0 a.messages) a.end b.end status code text other a.ending b.ending a.written
     (b.written
     ∙ ap (λ (p : Progress). texts (router_rows p.rows) 0 b.messages ++ last_text b.end) (sym rows)
     ∙ ap (λ ms. texts (router_rows a.progress.rows) 0 ms ++ last_text b.end) (sym same.0))
     (one_end a.end b.end a.messages a.rest a.ends ends)
+
+-- ---- a run that was cut short, and one that goes on
+
+-- nothing is a front
+nothing_front : (front text : List ℕ) → front ≡ [] → IsFront front text
+nothing_front front text none = (text, ap (λ f. f ++ text) (sym none))
+
+-- in the first line
+first_goes_on : (bytes : List ℕ) (drawn more : List (List ℕ)) (times later : List ℕ) (status : ℕ) (front text : List ℕ)
+    → StopsAtFirst bytes drawn times front → IsDryText bytes (drawn ++ more) (times ++ later) status text → IsFront front text
+first_goes_on bytes drawn more times later status front text s meant = by_cases s.written meant
+  where
+    by_cases : (front ≡ []) ⊎ BeginsRefusal (line_of bytes) s.now most_rows drawn front
+        → IsDryText bytes (drawn ++ more) (times ++ later) status text → IsFront front text
+    by_cases (inl none) meant = nothing_front front text none
+    by_cases (inr is) (inl a) =
+        let time = first_time s.now a.now later a.later (sym (ap (λ ts. ts ++ later) s.clock) ∙ a.clock) in
+        absurd (not_both a.declared (at_time (line_of bytes) s.now a.now (drawn ++ more) (Err (record { response = is.response; drawn = length drawn })) time.0 (is.refused more)))
+    by_cases (inr is) (inr r) =
+        let time = first_time s.now r.now later [] (sym (ap (λ ts. ts ++ later) s.clock) ∙ r.clock) in
+        let same : r.refused ≡ record { response = is.response; drawn = length drawn } =
+        one_refusal r.declared (at_time (line_of bytes) s.now r.now (drawn ++ more) (Err (record { response = is.response; drawn = length drawn })) time.0 (is.refused more)) in
+        (is.begins.0, r.written ∙ ap (λ (e : RefusedLine). refusal_line e.response) same ∙ is.begins.1)
+
+-- one request more is read
+one_more : (bytes : List ℕ) (ms : List Message) (m : Message) (rest behind : List ℕ) → IsReading bytes ms rest → IsRequest m
+    → rest ≡ print_message m ++ behind → IsReading bytes (ms ++ m ∷ []) behind
+one_more bytes ms m rest behind reading is stands = record {
+  whole =
+      reading.whole
+      ∙ ap (λ r. flat_map print_message ms ++ r) stands
+      ∙ sym (append_assoc (flat_map print_message ms) (print_message m) behind)
+      ∙ ap (λ t. t ++ behind)
+      (ap (λ t. flat_map print_message ms ++ t) (sym (append-nil (print_message m)))
+      ∙ sym (flat_map-append print_message ms (m ∷ [])));
+  each = each-push IsRequest ms m reading.each is;
+}
+
+-- behind the replies to these requests, in a text at the front of what the other run writes behind them
+front_behind : (rows : RouterRows) (ms ns : List Message) (part front text end : List ℕ)
+    → front ≡ texts rows 0 ms ++ part → text ≡ texts rows 0 ns ++ end
+    → IsFront (texts rows 0 ms ++ part) (texts rows 0 ns ++ end) → IsFront front text
+front_behind rows ms ns part front text end mine yours (rest, is) =
+    (rest, yours ∙ is ∙ ap (λ t. t ++ rest) (sym mine))
+
+-- in the replies
+replies_go_on : (bytes : List ℕ) (rows : RouterRows) (ms ns : List Message) (rest left part front text : List ℕ) (end : End) (readings : ℕ)
+    → IsReading bytes ms rest → GoOn ms → length ms < most_requests → StopsIn rows (length ms) readings rest part
+    → IsReading bytes ns left → length ns ≤ most_requests → EndsSo end ns left
+    → front ≡ texts rows 0 ms ++ part → text ≡ texts rows 0 ns ++ last_text end → IsFront front text
+replies_go_on bytes rows ms ns rest left part front text end readings mine on few (inl (once, none)) yours most ends wrote writes =
+    let all = front_of_whole bytes ms ns rest left mine yours (omega arith) (all_on ms on) (is_last end ns left ends) in
+    let before = reading_front bytes ms ns rest left mine yours all in
+    let replies = texts_front rows ms ns (before.0, before.1) in
+    front_behind rows ms ns part front text (last_text end) wrote writes
+    (front_within (texts rows 0 ms ++ part) (texts rows 0 ms) (texts rows 0 ns) (last_text end)
+    ([], sym (append-nil (texts rows 0 ms)) ∙ ap (λ t. texts rows 0 ms ++ t) (sym none) ∙ sym (append-nil (texts rows 0 ms ++ part))) replies)
+replies_go_on bytes rows ms ns rest left part front text end readings mine on few (inr (inl (once, is))) yours most ends wrote writes =
+    let longer = one_more bytes ms is.next rest is.behind mine is.is is.stands in
+    let len : length (ms ++ is.next ∷ []) ≤ most_requests = simp length-append (omega arith) in
+    let only : OnlyLastMayAsk (ms ++ is.next ∷ []) = record { before = ms; last = is.next ∷ []; joined = refl; on = on; one = omega arith } in
+    let all = front_of_whole bytes (ms ++ is.next ∷ []) ns is.behind left longer yours len only (is_last end ns left ends) in
+    let before = reading_front bytes (ms ++ is.next ∷ []) ns is.behind left longer yours all in
+    let replies = texts_front rows (ms ++ is.next ∷ []) ns (before.0, before.1) in
+    front_behind rows ms ns part front text (last_text end) wrote writes
+    (front_within (texts rows 0 ms ++ part) (texts rows 0 (ms ++ is.next ∷ [])) (texts rows 0 ns) (last_text end) (
+      is.begins.0,
+      texts-push rows 0 (length ms) ms is.next (omega arith)
+          ∙ ap (λ t. texts rows 0 ms ++ t) is.begins.1
+          ∙ sym (append_assoc (texts rows 0 ms) part is.begins.0),
+    ) replies)
+replies_go_on bytes rows ms ns rest left part front text end readings mine on few (inr (inr (once, bad, begins))) yours most ends wrote writes =
+    let same = same_whole bytes ms ns rest left Bad end mine yours (omega arith) most (on, few, bad) ends in
+    let there = subst (EndsSo end ms) (sym same.1) (subst (λ xs. EndsSo end xs left) (sym same.0) ends) in
+    let closes : end ≡ Bad = one_end end Bad ms rest there (on, few, bad) in
+    front_behind rows ms ns part front text (last_text end) wrote writes (
+      begins.0,
+      ap (λ xs. texts rows 0 xs ++ last_text end) (sym same.0)
+          ∙ ap (λ e. texts rows 0 ms ++ last_text e) closes
+          ∙ ap (λ t. texts rows 0 ms ++ t) begins.1
+          ∙ sym (append_assoc (texts rows 0 ms) part begins.0),
+    )
+
+-- behind the first line
+behind_goes_on : (bytes : List ℕ) (drawn more : List (List ℕ)) (times later : List ℕ) (status : ℕ) (front text : List ℕ)
+    → StopsBehind bytes drawn times front → IsDryText bytes (drawn ++ more) (times ++ later) status text → IsFront front text
+behind_goes_on bytes drawn more times later status front text s (inr r) =
+    let time = first_time s.now r.now (s.later ++ later) [] (sym (ap (λ ts. ts ++ later) s.clock) ∙ r.clock) in
+    absurd (not_both (at_time (line_of bytes) s.now r.now (drawn ++ more) (Ok s.progress) time.0 (s.declared more)) r.declared)
+behind_goes_on bytes drawn more times later status front text s (inl a) =
+    let time = first_time s.now a.now (s.later ++ later) a.later (sym (ap (λ ts. ts ++ later) s.clock) ∙ a.clock) in
+    let same : s.progress ≡ a.progress =
+    one_outcome (at_time (line_of bytes) s.now a.now (drawn ++ more) (Ok s.progress) time.0 (s.declared more)) a.declared in
+    replies_go_on (after_line bytes) (router_rows s.progress.rows) s.messages a.messages s.rest a.rest s.part front text a.end (length s.later)
+    s.reading s.on s.few s.stops a.reading a.most a.ends s.written
+    (a.written ∙ ap (λ (p : Progress). texts (router_rows p.rows) 0 a.messages ++ last_text a.end) (sym same))
+
+-- what it wrote is a front of what the other writes
+pub goes_on : (bytes : List ℕ) (drawn more : List (List ℕ)) (times later : List ℕ) (status : ℕ) (front text : List ℕ)
+    → IsCutText bytes drawn times front → IsDryText bytes (drawn ++ more) (times ++ later) status text → IsFront front text
+goes_on bytes drawn more times later status front text (inl s) meant = first_goes_on bytes drawn more times later status front text s meant
+goes_on bytes drawn more times later status front text (inr s) meant = behind_goes_on bytes drawn more times later status front text s meant
 
 -- ---- statuses
 
@@ -321,8 +373,8 @@ pub first_status : (status : ℕ) → IsFirstStatus status → IsWhole status �
 first_status status (inl three) = inl (inr (inl three))
 first_status status (inr short) = inr short
 
--- a first line that gave no commands is refused, or was cut short
-is_three : (status : ℕ) → IsFirstStatus status → IsWhole status → status ≡ 3
+-- a first line that gave no commands, and whose run wasn't cut short, is refused
+pub is_three : (status : ℕ) → IsFirstStatus status → IsWhole status → status ≡ 3
 is_three status first (inr (inl three)) = three
 is_three status (inl three) (inl zero) = three
 is_three status (inr (inl four)) (inl zero) = absurd (omega arith)
@@ -333,30 +385,61 @@ is_three status (inr (inl four)) (inr (inr seven)) = absurd (omega arith)
 is_three status (inr (inr (inl five))) (inr (inr seven)) = absurd (omega arith)
 is_three status (inr (inr (inr six))) (inr (inr seven)) = absurd (omega arith)
 
-not_three : (status : ℕ) → IsCutShort status → status ≢ 3
-not_three status (inl four) = λ three. absurd (omega arith)
-not_three status (inr (inl five)) = λ three. absurd (omega arith)
-not_three status (inr (inr six)) = λ three. absurd (omega arith)
+-- its refusal was written
+refuses : (call : FirstLineCall) (status : ℕ) → ((status ≡ 3) × WritesRefusal call) ⊎ StopsFirst call status → IsWhole status
+    → (status ≡ 3) × WritesRefusal call
+refuses call status (inl is) whole = is
+refuses call status (inr (inl (four, is))) (inl zero) = absurd (omega arith)
+refuses call status (inr (inl (four, is))) (inr (inl three)) = absurd (omega arith)
+refuses call status (inr (inl (four, is))) (inr (inr seven)) = absurd (omega arith)
+refuses call status (inr (inr (inl (six, is)))) (inl zero) = absurd (omega arith)
+refuses call status (inr (inr (inl (six, is)))) (inr (inl three)) = absurd (omega arith)
+refuses call status (inr (inr (inl (six, is)))) (inr (inr seven)) = absurd (omega arith)
+refuses call status (inr (inr (inr (five, is)))) (inl zero) = absurd (omega arith)
+refuses call status (inr (inr (inr (five, is)))) (inr (inl three)) = absurd (omega arith)
+refuses call status (inr (inr (inr (five, is)))) (inr (inr seven)) = absurd (omega arith)
 
-pub refused_whole : (Drew : List (List ℕ) → Type 0) (Read : List ℕ → Type 0) (bytes : List ℕ) (before after : Option (List ℕ))
-    (drawn : List (List ℕ)) (time status : ℕ) → Drew drawn → Read (time ∷ []) → IsFirstStatus status → IsWhole status
-    → (status ≡ 3 → WritesRefusal time most_rows bytes before after drawn) × (status ≢ 3 → WritesFirstFront time most_rows bytes before after drawn)
-    → WritesText Drew Read bytes before after status
-refused_whole Drew Read bytes before after drawn time status drew read first whole says =
-    let three = is_three status first whole in
-    subst (WritesText Drew Read bytes before after) (sym three) (refusal_written Drew Read bytes before after drawn time drew read (says.0 three))
+-- or it was cut short
+stops : (call : FirstLineCall) (status : ℕ) → ((status ≡ 3) × WritesRefusal call) ⊎ StopsFirst call status → IsCutShort status
+    → StopsFirst call status
+stops call status (inr is) short = is
+stops call status (inl (three, is)) (inl four) = absurd (omega arith)
+stops call status (inl (three, is)) (inr (inl five)) = absurd (omega arith)
+stops call status (inl (three, is)) (inr (inr six)) = absurd (omega arith)
 
-pub refused_front : (Drew : List (List ℕ) → Type 0) (Read : List ℕ → Type 0) (bytes : List ℕ) (before after : Option (List ℕ))
-    (drawn : List (List ℕ)) (time status : ℕ) → Drew drawn → Read (time ∷ []) → IsCutShort status
-    → (status ≡ 3 → WritesRefusal time most_rows bytes before after drawn) × (status ≢ 3 → WritesFirstFront time most_rows bytes before after drawn)
-    → WritesFront Drew Read bytes before after
-refused_front Drew Read bytes before after drawn time status drew read short says =
-    first_front Drew Read bytes before after drawn time drew read (says.1 (not_three status short))
+-- a call that took the first line of a dry run
+abbrev pub first_call : ℕ → List ℕ → Option (List ℕ) → Option (List ℕ) → Option (List ℕ) → List (List ℕ) → FirstLineCall
+first_call now bytes left before written drawn = record {
+  now = now;
+  limit = most_rows;
+  bytes = bytes;
+  left = left;
+  before = before;
+  written = written;
+  drawn = drawn;
+}
+
+pub refused_whole : (Drew : List (List ℕ) → Type 0) (Read : List ℕ → Type 0) (bytes : List ℕ) (left before written : Option (List ℕ))
+    (now : ℕ) (drawn : List (List ℕ)) (status : ℕ) → Drew drawn → Read (now ∷ []) → IsWhole status
+    → AnswersFirst (first_call now bytes left before written drawn) (Err status)
+    → WritesText Drew Read bytes before written status
+refused_whole Drew Read bytes left before written now drawn status drew read whole says =
+    let refused = refuses (first_call now bytes left before written drawn) status says whole in
+    subst (WritesText Drew Read bytes before written) (sym refused.0)
+    (refusal_written Drew Read (first_call now bytes left before written drawn) refl drew read refused.1)
+
+pub refused_front : (Drew : List (List ℕ) → Type 0) (Read : List ℕ → Type 0) (bytes : List ℕ) (left before written : Option (List ℕ))
+    (now : ℕ) (drawn : List (List ℕ)) (status : ℕ) → Drew drawn → Read (now ∷ []) → IsCutShort status
+    → AnswersFirst (first_call now bytes left before written drawn) (Err status)
+    → WritesFront Drew Read bytes before written
+refused_front Drew Read bytes left before written now drawn status drew read short says =
+    first_front Drew Read (first_call now bytes left before written drawn) status refl drew read
+    (stops (first_call now bytes left before written drawn) status says short)
 
 -- behind the commands
 pub answered_text : (Drew : List (List ℕ) → Type 0) (Read Later : List ℕ → Type 0) (bytes : List ℕ) (left before middle written : Option (List ℕ))
     (now : ℕ) (drawn : List (List ℕ)) (commands : List Command) (status : ℕ)
-    → GivesCommands now most_rows bytes left drawn commands → middle ≡ before → Drew drawn
+    → AnswersFirst (first_call now bytes left before middle drawn) (Ok commands) → middle ≡ before → Drew drawn
     → ((times : List ℕ) → Later times → Read (now ∷ times))
     → EndsWith (router_rows (rows_after commands)) Later left middle written status → WritesText Drew Read bytes before written status
 answered_text Drew Read Later bytes left before middle written now drawn commands status gives same drew on ended =
@@ -366,10 +449,10 @@ answered_text Drew Read Later bytes left before middle written now drawn command
 
 pub answered_front : (Drew : List (List ℕ) → Type 0) (Read Later : List ℕ → Type 0) (bytes : List ℕ) (left before middle written : Option (List ℕ))
     (now : ℕ) (drawn : List (List ℕ)) (commands : List Command)
-    → GivesCommands now most_rows bytes left drawn commands → middle ≡ before → Drew drawn
+    → AnswersFirst (first_call now bytes left before middle drawn) (Ok commands) → middle ≡ before → Drew drawn
     → ((times : List ℕ) → Later times → Read (now ∷ times))
     → AnswersFront (router_rows (rows_after commands)) Later left middle written → WritesFront Drew Read bytes before written
 answered_front Drew Read Later bytes left before middle written now drawn commands gives same drew on front =
     replies_front Drew Read Later bytes left before written now drawn (progress_after commands (length drawn))
-    gives.declared gives.after drew on
+    gives.declared refl gives.after drew on
     (subst (λ w. AnswersFront (router_rows (rows_after commands)) Later left w written) same front)

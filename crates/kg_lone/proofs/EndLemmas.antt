@@ -1,11 +1,10 @@
--- Where the answering of a connection's requests ends is determined by the bytes, but for one choice.
+-- Where the answering of a connection's requests ends is determined by the bytes.
 use Rattle.std.proofs.Common.{◌≡◌, ℕ, ◌<◌, ◌≤◌, ◌⊎◌, inl, inr, false, true≢false, List, [], ◌∷◌, ◌++◌, length, refl, sym, ap, ◌∙◌, subst, arith}
 use Rattle.std.proofs.lemmas.List.{append_assoc, append-nil, length-append}
 use Rattle.kg_wire.specs.Messages.{Message, IsReading, BeginsNoRequest}
 use Rattle.kg_wire.proofs.MessageLemmas.{reading_front, reading_most, reading_same}
 use Rattle.kg_wire.proofs.NextLemmas.{message_some}
-use Rattle.kg_lone.specs.Answered.{OnlyLastMayAsk}
-use Rattle.kg_lone.specs.DryRun.{IsBroken}
+use Rattle.kg_wire.proofs.RefusalLemmas.{bad_begins_none, bad_not_cut, bad_some, cut_begins_none, cut_some}
 use Rattle.kg_lone.specs.DryText.{EndsSo, GoOn, LastAsks, asks, most_requests}
 use Rattle.kg_lone.specs.declared.dry.End.{End}
 use Rattle.kg_lone.specs.declared.dry.End.TheVariants.{Closed, Asked, Spent, Bad, Cut}
@@ -35,6 +34,14 @@ not_both ms on last =
     true≢false (sym last.asked
     ∙ goes_on_at last.before ms last.last [] [] (append-nil ms ∙ last.joined) (omega arith) on)
 
+-- all of these but perhaps the last go on
+pub record OnlyLastMayAsk (messages : List Message) : Type 0 where
+  pub before : List Message
+  pub last : List Message
+  pub joined : messages ≡ before ++ last
+  pub on : GoOn before
+  pub one : length last ≤ 1
+
 -- where all go on, all but the last do
 pub all_on : (ms : List Message) → GoOn ms → OnlyLastMayAsk ms
 all_on ms on = record { before = ms; last = []; joined = sym (append-nil ms); on = on; one = omega arith }
@@ -56,8 +63,8 @@ pub is_last : (end : End) (ms : List Message) (rest : List ℕ) → EndsSo end m
 is_last Closed ms rest (on, few, none) = inr (inr (subst BeginsNoRequest (sym none) nothing_begins))
 is_last Asked ms rest last = inr (inl last)
 is_last Spent ms rest (on, all) = inl all
-is_last Bad ms rest (on, few, some, never) = inr (inr (subst BeginsNoRequest (append-nil rest) (never [])))
-is_last Cut ms rest (on, few, cut) = inr (inr cut.part)
+is_last Bad ms rest (on, few, bad) = inr (inr (bad_begins_none rest bad))
+is_last Cut ms rest (on, few, cut) = inr (inr (cut_begins_none rest cut))
 
 -- requests that were read, all but perhaps the last of which go on, are at the front of those of a run that ended
 pub front_of_whole : (bytes : List ℕ) (ms ns : List Message) (left rest : List ℕ) → IsReading bytes ms left → IsReading bytes ns rest
@@ -91,31 +98,30 @@ same_whole bytes ms ns left rest end other a b few less mine yours =
 some_not_none : (rest : List ℕ) → rest ≡ [] → 0 < length rest → ⊥
 some_not_none rest none some = let e : length rest ≡ 0 = ap length none in omega arith
 
--- two ends after the same requests are one, or both tell of a broken message
-pub one_end : (end other : End) (ms : List Message) (rest : List ℕ) → EndsSo end ms rest → EndsSo other ms rest
-    → (end ≡ other) ⊎ (IsBroken end × IsBroken other)
-one_end Closed Closed ms rest a b = inl refl
+-- two ends after the same requests are one
+pub one_end : (end other : End) (ms : List Message) (rest : List ℕ) → EndsSo end ms rest → EndsSo other ms rest → end ≡ other
+one_end Closed Closed ms rest a b = refl
 one_end Closed Asked ms rest a b = absurd (not_both ms a.0 b)
 one_end Closed Spent ms rest (on, few, none) (go, all) = absurd (omega arith)
-one_end Closed Bad ms rest (on, few, none) (go, less, some, never) = absurd (some_not_none rest none some)
-one_end Closed Cut ms rest (on, few, none) (go, less, cut) = absurd (some_not_none rest none cut.some)
+one_end Closed Bad ms rest (on, few, none) (go, less, bad) = absurd (some_not_none rest none (bad_some rest bad))
+one_end Closed Cut ms rest (on, few, none) (go, less, cut) = absurd (some_not_none rest none (cut_some rest cut))
 one_end Asked Closed ms rest a b = absurd (not_both ms b.0 a)
-one_end Asked Asked ms rest a b = inl refl
+one_end Asked Asked ms rest a b = refl
 one_end Asked Spent ms rest a b = absurd (not_both ms b.0 a)
 one_end Asked Bad ms rest a b = absurd (not_both ms b.0 a)
 one_end Asked Cut ms rest a b = absurd (not_both ms b.0 a)
 one_end Spent Closed ms rest (on, all) (go, less, none) = absurd (omega arith)
 one_end Spent Asked ms rest a b = absurd (not_both ms a.0 b)
-one_end Spent Spent ms rest a b = inl refl
-one_end Spent Bad ms rest (on, all) (go, less, some, never) = absurd (omega arith)
+one_end Spent Spent ms rest a b = refl
+one_end Spent Bad ms rest (on, all) (go, less, bad) = absurd (omega arith)
 one_end Spent Cut ms rest (on, all) (go, less, cut) = absurd (omega arith)
-one_end Bad Closed ms rest (on, few, some, never) (go, less, none) = absurd (some_not_none rest none some)
+one_end Bad Closed ms rest (on, few, bad) (go, less, none) = absurd (some_not_none rest none (bad_some rest bad))
 one_end Bad Asked ms rest a b = absurd (not_both ms a.0 b)
-one_end Bad Spent ms rest (on, few, some, never) (go, all) = absurd (omega arith)
-one_end Bad Bad ms rest a b = inl refl
-one_end Bad Cut ms rest a b = inr (inl refl, inr refl)
-one_end Cut Closed ms rest (on, few, cut) (go, less, none) = absurd (some_not_none rest none cut.some)
+one_end Bad Spent ms rest (on, few, bad) (go, all) = absurd (omega arith)
+one_end Bad Bad ms rest a b = refl
+one_end Bad Cut ms rest (on, few, bad) (go, less, cut) = absurd (bad_not_cut rest bad cut)
+one_end Cut Closed ms rest (on, few, cut) (go, less, none) = absurd (some_not_none rest none (cut_some rest cut))
 one_end Cut Asked ms rest a b = absurd (not_both ms a.0 b)
 one_end Cut Spent ms rest (on, few, cut) (go, all) = absurd (omega arith)
-one_end Cut Bad ms rest a b = inr (inr refl, inl refl)
-one_end Cut Cut ms rest a b = inl refl
+one_end Cut Bad ms rest (on, few, cut) (go, less, bad) = absurd (bad_not_cut rest bad cut)
+one_end Cut Cut ms rest a b = refl

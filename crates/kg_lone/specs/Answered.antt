@@ -1,13 +1,11 @@
--- How far a connection's requests are answered (this project's own).
-use Rattle.std.specs.Prelude.{◌≡◌, ℕ, ◌≤◌, ◌⊎◌, List, ◌++◌, length, Option, Some}
+-- Machinery for proofs: how far the requests of a connection are answered while it is read.
+use Rattle.std.specs.Prelude.{◌≡◌, ℕ, ◌<◌, ◌≤◌, List, ◌++◌, length, Option, Some}
 use Rattle.std.specs.List.{flat_map, AllByRecursion}
 use Rattle.kg_outside.specs.Moves.{with_front, with_end}
 use Rattle.kg_router.specs.RouterRows.{RouterRows}
 use Rattle.kg_wire.specs.Messages.{Message, IsRequest, print_message}
-use Rattle.kg_lone.specs.DryText.{EndsSo, GoOn, last_text, most_requests, status_of, texts}
-use Rattle.kg_lone.specs.Fronts.{IsFront}
+use Rattle.kg_lone.specs.DryText.{EndsSo, GoOn, StopsIn, last_text, most_requests, status_of, texts}
 use Rattle.kg_lone.specs.declared.dry.End.{End}
-use Rattle.kg_lone.specs.declared.dry.End.TheVariants.{Bad}
 
 -- these requests were read, each got its reply, and the clock was read once for each
 pub record Answered (rows : RouterRows) (Read : List ℕ → Type 0) (ahead_before ahead_now written_before written_now : Option (List ℕ))
@@ -47,31 +45,16 @@ pub record EndsWith (rows : RouterRows) (Read : List ℕ → Type 0) (left_befor
   pub ending : status ≡ status_of end
   pub all : AnswersAll rows Read left_before written_before written_now end
 
--- all of these but perhaps the last go on
-pub record OnlyLastMayAsk (messages : List Message) : Type 0 where
-  pub before : List Message
-  pub last : List Message
-  pub joined : messages ≡ before ++ last
-  pub on : GoOn before
-  pub one : length last ≤ 1
-
--- a front of the replies to these requests was written, or all of them and a front of the 400 of a
--- refused message
-abbrev pub FrontOfReplies : RouterRows → List Message → Option (List ℕ) → List ℕ → Type 0
-FrontOfReplies rows messages ahead front =
-    IsFront front (texts rows 0 messages)
-    ⊎ (EndsAhead Bad messages ahead × IsFront front (texts rows 0 messages ++ last_text Bad))
-
--- the answering was cut short in a text, or between two
+-- the answering was cut short behind these requests
 pub record AnswersFront (rows : RouterRows) (Read : List ℕ → Type 0) (left_before written_before written_now : Option (List ℕ)) : Type 0 where
   pub messages : List Message
-  pub few : length messages ≤ most_requests
-  pub on : OnlyLastMayAsk messages
+  pub few : length messages < most_requests
+  pub on : GoOn messages
   pub times : List ℕ
   pub read : Read times
   pub each : AllByRecursion IsRequest messages
   pub ahead : Option (List ℕ)
   pub whole : left_before ≡ with_front (flat_map print_message messages) ahead
-  pub front : List ℕ
-  pub begins : FrontOfReplies rows messages ahead front
-  pub written : written_now ≡ with_end written_before front
+  pub part : List ℕ
+  pub stops : (rest : List ℕ) → ahead ≡ Some rest → StopsIn rows (length messages) (length times) rest part
+  pub written : written_now ≡ with_end written_before (texts rows 0 messages ++ part)

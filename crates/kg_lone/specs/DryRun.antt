@@ -1,8 +1,5 @@
 -- The exit statuses of a run (this project's own: docs/BEHAVIOUR.md, "Exit statuses").
-use Rattle.std.specs.Prelude.{◌≡◌, ℕ, ◌⊎◌, List, [], ◌∷◌, ◌++◌, codes}
-use Rattle.kg_lone.specs.Plain.{bad_request_text}
-use Rattle.kg_lone.specs.declared.dry.End.{End}
-use Rattle.kg_lone.specs.declared.dry.End.TheVariants.{Bad, Cut}
+use Rattle.std.specs.Prelude.{◌≡◌, ℕ, ◌⊎◌, List, [], ◌∷◌, codes}
 
 -- the one word `dry`
 abbrev pub IsDryWords : List (List ℕ) → Type 0
@@ -20,12 +17,3 @@ IsCutShort status = (status ≡ 4) ⊎ (status ≡ 5) ⊎ (status ≡ 6)
 -- 2 is for other words
 abbrev pub IsExit : ℕ → Type 0
 IsExit status = (status ≡ 2) ⊎ IsWhole status ⊎ IsCutShort status
-
--- a message was refused or cut
-abbrev pub IsBroken : End → Type 0
-IsBroken end = (end ≡ Bad) ⊎ (end ≡ Cut)
-
--- the texts are the same, but that at the status 7 one may have the 400 of a refused message more
-abbrev pub IsSameText : ℕ → List ℕ → List ℕ → Type 0
-IsSameText status text other =
-    (text ≡ other) ⊎ ((status ≡ 7) × ((text ≡ other ++ bad_request_text) ⊎ (other ≡ text ++ bad_request_text)))

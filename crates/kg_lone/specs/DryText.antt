@@ -3,7 +3,7 @@
 use Rattle.std.specs.Prelude.{◌≡◌, ℕ, ◌+◌, ◌<◌, ◌≤◌, ◌==◌, ◌⊎◌, Bool, true, false, List, [], ◌∷◌, ◌++◌, length, Option, Ok, Err}
 use Rattle.std.specs.List.{AllByRecursion}
 use Rattle.kg_declare.specs.Outcome.{Progress, Refused as RefusedLine}
-use Rattle.kg_lone.specs.FirstCommands.{first_outcome, refusal_line}
+use Rattle.kg_lone.specs.FirstCommands.{BeginsRefusal, Decides, first_outcome, refusal_line}
 use Rattle.kg_lone.specs.FirstLine.{line_of, after_line}
 use Rattle.kg_lone.specs.Fronts.{IsFront}
 use Rattle.kg_lone.specs.InsertedRows.{router_rows}
@@ -13,8 +13,8 @@ use Rattle.kg_lone.specs.declared.dry.End.TheVariants.{Closed, Asked, Spent, Bad
 use Rattle.kg_outside.specs.Moves.{with_end}
 use Rattle.kg_router.specs.RouterRows.{RouterRows}
 use Rattle.kg_print.specs.Connection.{asks_for_end}
-use Rattle.kg_wire.specs.Messages.{Message, IsReading, NeverBegins, request_of}
-use Rattle.kg_wire.specs.Reading.{IsCut}
+use Rattle.kg_wire.specs.Messages.{Message, IsReading, IsRequest, print_message, request_of}
+use Rattle.kg_wire.specs.Refusals.{IsBad, IsCut}
 
 -- how many requests one connection answers
 abbrev pub most_requests : ℕ
@@ -52,12 +52,12 @@ pub record LastAsks (ms : List Message) : Type 0 where
 
 -- why no further request is answered, after these and before the rest: the source ended between two
 -- messages, the end was asked for, a thousand were answered, the next message is refused, or the source
--- ended inside it. Some bytes that hold no whole head may be called refused or cut
+-- ended inside it
 abbrev pub EndsSo : End → List Message → List ℕ → Type 0
 EndsSo Closed ms rest = GoOn ms × (length ms < most_requests) × (rest ≡ [])
 EndsSo Asked ms rest = LastAsks ms
 EndsSo Spent ms rest = GoOn ms × (length ms ≡ most_requests)
-EndsSo Bad ms rest = GoOn ms × (length ms < most_requests) × (0 < length rest) × NeverBegins rest
+EndsSo Bad ms rest = GoOn ms × (length ms < most_requests) × IsBad rest
 EndsSo Cut ms rest = GoOn ms × (length ms < most_requests) × IsCut rest
 
 -- what is written behind the replies: the 400 of a refused message
@@ -111,12 +111,54 @@ abbrev pub IsDryText : List ℕ → List (List ℕ) → List ℕ → ℕ → Lis
 IsDryText bytes drawn times status text =
     IsAnsweredRun bytes drawn times status text ⊎ IsRefusedRun bytes drawn times status text
 
--- these bytes are the front of a text that may be written
-pub record BeginsText (bytes : List ℕ) (drawn : List (List ℕ)) (times : List ℕ) (front : List ℕ) : Type 0 where
-  pub status : ℕ
-  pub text : List ℕ
-  pub meant : IsDryText bytes drawn times status text
-  pub front_of : IsFront front text
+-- ---- a run that was cut short
+
+-- in its first line, before which the clock was read: nothing was written, or a front of its refusal
+pub record StopsAtFirst (bytes : List ℕ) (drawn : List (List ℕ)) (times : List ℕ) (front : List ℕ) : Type 0 where
+  pub now : ℕ
+  pub clock : times ≡ now ∷ []
+  pub written : (front ≡ []) ⊎ BeginsRefusal (line_of bytes) now most_rows drawn front
+
+-- a request stands next, behind so many that were answered, and these bytes are a front of the reply to it
+pub record BeginsReply (rows : RouterRows) (answered : ℕ) (rest part : List ℕ) : Type 0 where
+  pub next : Message
+  pub behind : List ℕ
+  pub is : IsRequest next
+  pub stands : rest ≡ print_message next ++ behind
+  pub begins : IsFront part (reply_to rows (answered + 1 == most_requests) (request_of local_address next))
+
+-- what was written behind so many whole replies, and how often the clock was read for all of it: nothing, with
+-- one reading for each request that was answered; a front of the reply to the next request, with one
+-- reading more; or a front of the 400 of a refused message
+abbrev pub StopsIn : RouterRows → ℕ → ℕ → List ℕ → List ℕ → Type 0
+StopsIn rows answered readings rest part =
+    ((readings ≡ answered) × (part ≡ []))
+    ⊎ ((readings ≡ answered + 1) × BeginsReply rows answered rest part)
+    ⊎ ((readings ≡ answered) × IsBad rest × IsFront part bad_request_text)
+
+-- behind its first line, which is accepted: these requests were answered, none of which asks for the end, and a
+-- part was written of what comes next. The clock is read for the declaration and then once for each request
+pub record StopsBehind (bytes : List ℕ) (drawn : List (List ℕ)) (times : List ℕ) (front : List ℕ) : Type 0 where
+  pub now : ℕ
+  pub later : List ℕ
+  pub clock : times ≡ now ∷ later
+  pub progress : Progress
+  pub declared : Decides (line_of bytes) now most_rows drawn (Ok progress)
+  pub all : progress.drawn ≡ length drawn
+  pub messages : List Message
+  pub rest : List ℕ
+  pub reading : IsReading (after_line bytes) messages rest
+  pub on : GoOn messages
+  pub few : length messages < most_requests
+  pub part : List ℕ
+  pub stops : StopsIn (router_rows progress.rows) (length messages) (length later) rest part
+  pub written : front ≡ texts (router_rows progress.rows) 0 messages ++ part
+
+-- over these bytes, with these ids drawn and these times read, a run that was cut short may have written this
+abbrev pub IsCutText : List ℕ → List (List ℕ) → List ℕ → List ℕ → Type 0
+IsCutText bytes drawn times front = StopsAtFirst bytes drawn times front ⊎ StopsBehind bytes drawn times front
+
+-- ---- what a run wrote
 
 -- the run was whole: what was written since is the text
 pub record WritesText (Drew : List (List ℕ) → Type 0) (Read : List ℕ → Type 0) (bytes : List ℕ)
@@ -129,7 +171,7 @@ pub record WritesText (Drew : List (List ℕ) → Type 0) (Read : List ℕ → T
   pub meant : IsDryText bytes drawn times status text
   pub written : now ≡ with_end before text
 
--- the run was cut short: what was written since is a front of the text, whatever ids and times were to come
+-- the run was cut short: what was written since is what such a run may have written
 pub record WritesFront (Drew : List (List ℕ) → Type 0) (Read : List ℕ → Type 0) (bytes : List ℕ)
     (before now : Option (List ℕ)) : Type 0 where
   pub drawn : List (List ℕ)
@@ -137,6 +179,5 @@ pub record WritesFront (Drew : List (List ℕ) → Type 0) (Read : List ℕ → 
   pub front : List ℕ
   pub drew : Drew drawn
   pub read : Read times
-  pub begins : (more : List (List ℕ)) (later : List ℕ) (status : ℕ) (text : List ℕ)
-      → IsDryText bytes (drawn ++ more) (times ++ later) status text → BeginsText bytes (drawn ++ more) (times ++ later) front
+  pub meant : IsCutText bytes drawn times front
   pub written : now ≡ with_end before front

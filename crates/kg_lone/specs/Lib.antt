@@ -6,6 +6,7 @@ pub mod FirstCommands
 pub mod FirstLine
 pub mod Fronts
 pub mod InsertedRows
+pub mod LineSteps
 pub mod Plain
 pub mod UpstreamFields
 pub mod UpstreamPath

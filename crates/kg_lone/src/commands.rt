@@ -1,13 +1,14 @@
 //! The commands of a first line.
 
-ghost use Rattle.std.specs.Prelude.{◌≡◌, ◌≢◌, ◌⊎◌, ℕ, List as Sequence, Some, true, false, IfErr, IfOk, OnOk};
+ghost use Rattle.std.specs.Prelude.{◌≡◌, ◌⊎◌, ℕ, List as Sequence, Some, true, false, IfErr, IfOk, OnOk};
 ghost use Rattle.kg_declare.specs.Histories.{AreInsertions};
 ghost use Rattle.kg_message.specs.GatewayMessage.{gateway_message};
 ghost use Rattle.kg_outside.specs.Causes.{Rose};
 ghost use Rattle.kg_outside.specs.Moves.{with_end};
-ghost use Rattle.kg_lone.specs.FirstCommands.{AnswersFirst, AnswersLine, Drew, IsFirstStatus, RefusesWith, not_built, read_outcome, refusal_line};
+ghost use Rattle.kg_lone.specs.FirstCommands.{AnswersFirst, Drew, FirstLineCall, IsFirstStatus, not_built, refusal_line};
 ghost use Rattle.kg_lone.specs.Fronts.{IsFront};
 ghost use Rattle.kg_lone.specs.InsertedRows.{has_plugin, is_plugin};
+ghost use Rattle.kg_lone.specs.LineSteps.{AnswersLine, RefusesWith, read_outcome};
 
 use crate::line::{FirstLine, LineError, first_line};
 use crate::status::{OUT_OF_MEMORY, READ_FAULT, REFUSED, WRITE_FAULT};
@@ -40,9 +41,17 @@ pub fn first_commands<S: Source, K: Sink, I: Ids>(
 ) -> Result<List<Command>, u8>
     ensures statuses { IfErr result IsFirstStatus }
 
-    // What the line declares, or its refusal, or a front of it.
+    // What the line declares, or its refusal, or what was written where the call was cut short.
     ensures line { Drew I.draws ids.old ids.new (λ drawn. (bytes : Sequence ℕ) → S.left source.old ≡ Some bytes
-        → AnswersFirst now limit bytes (S.left source.new) (K.written sink.old) (K.written sink.new) result drawn) }
+        → let call : FirstLineCall = record {
+          now = now;
+          limit = limit;
+          bytes = bytes;
+          left = S.left source.new;
+          before = K.written sink.old;
+          written = K.written sink.new;
+          drawn = drawn;
+        } in AnswersFirst call result) }
     ensures commands { IfOk result (AreInsertions limit) }
     ensures unwritten { OnOk result (sink.new ≡ sink.old) }
 
@@ -126,8 +135,9 @@ fn refusal(alloc: Global, text: &[u8]) -> DeclareError
 fn refuse<K: Sink>(alloc: Global, sink: &mut K, response: &Response) -> u8
     ensures statuses { (result ≡ 3) ⊎ (result ≡ 5) ⊎ (result ≡ 6) }
     ensures whole { result ≡ 3 → K.written sink.new ≡ with_end (K.written sink.old) (refusal_line response.now) }
-    ensures front { result ≢ 3 → (front : Sequence ℕ) × (IsFront front (refusal_line response.now))
+    ensures front { result ≡ 5 → (front : Sequence ℕ) × (IsFront front (refusal_line response.now))
         × (K.written sink.new ≡ with_end (K.written sink.old) front) }
+    ensures unwritten { result ≡ 6 → sink.new ≡ sink.old }
     ensures kept { result ≡ 3 → K.faults sink.new ≡ K.faults sink.old }
     ensures write { result ≡ 5 → Rose (K.faults sink.old) (K.faults sink.new) }
 {

@@ -1,13 +1,13 @@
 //! The dry run: a declaration and requests on one stream, the replies on another.
 
-ghost use Rattle.std.specs.Prelude.{◌≡◌, ◌⊎◌, ◌↔◌, ℕ, List as Sequence, [], ◌∷◌, Some, IsTrue, IfOk, OnOk, OnErr, IsErrOf};
+ghost use Rattle.std.specs.Prelude.{◌≡◌, ◌⊎◌, ◌↔◌, ℕ, List as Sequence, [], ◌∷◌, ◌++◌, Some, IsTrue, IfOk, OnOk, OnErr, IsErrOf};
 ghost use Rattle.kg_outside.specs.Causes.{Rose};
 ghost use Rattle.kg_outside.specs.Moves.{with_end};
 ghost use Rattle.kg_declare.specs.Histories.{AreInsertions};
 ghost use Rattle.kg_row_values.specs.Rows.{rows_after};
 ghost use Rattle.kg_lone.specs.Answered.{AnswersAll, AnswersFront, EndsWith};
-ghost use Rattle.kg_lone.specs.DryRun.{IsBroken, IsCutShort, IsDryWords, IsExit, IsSameText, IsWhole};
-ghost use Rattle.kg_lone.specs.DryText.{IsDryText, WritesFront, WritesText, most_rows};
+ghost use Rattle.kg_lone.specs.DryRun.{IsCutShort, IsDryWords, IsExit, IsWhole};
+ghost use Rattle.kg_lone.specs.DryText.{IsCutText, IsDryText, WritesFront, WritesText, most_rows};
 ghost use Rattle.kg_lone.specs.Fronts.{IsFront};
 ghost use Rattle.kg_lone.specs.InsertedRows.{router_rows};
 ghost use Rattle.kg_lone.specs.Plain.{bad_request_text, reply_to};
@@ -108,8 +108,8 @@ fn answer_bad<K: Sink>(alloc: Global, sink: &mut K) -> Result<(), Stop>
     ensures read { IsErrOf result Stop.ReadFault → ⊥ }
     ensures write { IsErrOf result Stop.WriteFault → Rose (K.faults sink.old) (K.faults sink.new) }
 {
-    let text = bad_request_text(alloc)?;
-    write_whole(sink, text.as_slice())?;
+    let refusal = bad_request_text(alloc)?;
+    write_whole(sink, refusal.as_slice())?;
     Ok(())
 }
 
@@ -123,7 +123,7 @@ fn answer_all<S: Source, K: Sink, T: Clock>(
 ) -> Result<End, Stop>
     ensures ok { IfOk result (AnswersAll gateway.old (T.reads clock.old clock.new) (S.left source.old) (K.written sink.old) (K.written sink.new)) }
     ensures err { OnErr result (AnswersFront gateway.old (T.reads clock.old clock.new) (S.left source.old) (K.written sink.old) (K.written sink.new)) }
-    ensures kept_read { IfOk result (λ end. ¬ (IsBroken end) → S.faults source.new ≡ S.faults source.old) }
+    ensures kept_read { OnOk result (S.faults source.new ≡ S.faults source.old) }
     ensures kept_write { OnOk result (K.faults sink.new ≡ K.faults sink.old) }
     ensures read { IsErrOf result Stop.ReadFault → Rose (S.faults source.old) (S.faults source.new) }
     ensures write { IsErrOf result Stop.WriteFault → Rose (K.faults sink.old) (K.faults sink.new) }
@@ -168,7 +168,7 @@ fn answered_by<S: Source, K: Sink, T: Clock>(
         → EndsWith gateway.old (T.reads clock.old clock.new) (S.left source.old) (K.written sink.old) (K.written sink.new) result }
     ensures front { IsCutShort result
         → AnswersFront gateway.old (T.reads clock.old clock.new) (S.left source.old) (K.written sink.old) (K.written sink.new) }
-    ensures kept { result ≡ 0 → (S.faults source.new ≡ S.faults source.old) × (K.faults sink.new ≡ K.faults sink.old) }
+    ensures kept { (result ≡ 0) ⊎ (result ≡ 7) → (S.faults source.new ≡ S.faults source.old) × (K.faults sink.new ≡ K.faults sink.old) }
     ensures read { result ≡ 4 → Rose (S.faults source.old) (S.faults source.new) }
     ensures write { result ≡ 5 → Rose (K.faults sink.old) (K.faults sink.new) }
 {
@@ -198,7 +198,7 @@ fn answered<S: Source, K: Sink, T: Clock>(
         → EndsWith (router_rows (rows_after commands)) (T.reads clock.old clock.new) (S.left source.old) (K.written sink.old) (K.written sink.new) result }
     ensures front { IsCutShort result
         → AnswersFront (router_rows (rows_after commands)) (T.reads clock.old clock.new) (S.left source.old) (K.written sink.old) (K.written sink.new) }
-    ensures kept { result ≡ 0 → (S.faults source.new ≡ S.faults source.old) × (K.faults sink.new ≡ K.faults sink.old) }
+    ensures kept { (result ≡ 0) ⊎ (result ≡ 7) → (S.faults source.new ≡ S.faults source.old) × (K.faults sink.new ≡ K.faults sink.old) }
     ensures read { result ≡ 4 → Rose (S.faults source.old) (S.faults source.new) }
     ensures write { result ≡ 5 → Rose (K.faults sink.old) (K.faults sink.new) }
 {
@@ -228,7 +228,7 @@ fn dry<S: Source, K: Sink, T: Clock, I: Ids>(
         → WritesText (I.draws ids.old ids.new) (T.reads clock.old clock.new) bytes (K.written sink.old) (K.written sink.new) result }
     ensures front { IsCutShort result → (bytes : Sequence ℕ) → S.left source.old ≡ Some bytes
         → WritesFront (I.draws ids.old ids.new) (T.reads clock.old clock.new) bytes (K.written sink.old) (K.written sink.new) }
-    ensures kept { (result ≡ 0) ⊎ (result ≡ 3) → (S.faults source.new ≡ S.faults source.old) × (K.faults sink.new ≡ K.faults sink.old) }
+    ensures kept { IsWhole result → (S.faults source.new ≡ S.faults source.old) × (K.faults sink.new ≡ K.faults sink.old) }
     ensures read { result ≡ 4 → Rose (S.faults source.old) (S.faults source.new) }
     ensures write { result ≡ 5 → Rose (K.faults sink.old) (K.faults sink.new) }
 {
@@ -276,14 +276,15 @@ pub fn run<S: Source, K: Sink, T: Clock, I: Ids>(
     ensures words { (result ≡ 2) ↔ (¬ (IsDryWords words.now)) }
     ensures untouched { result ≡ 2 → (source.new ≡ source.old) × (sink.new ≡ sink.old) × (clock.new ≡ clock.old) × (ids.new ≡ ids.old) }
 
-    // The whole text, or a front of it where the run was cut short.
+    // The whole text; or, where the run was cut short, what it had come to: in the first line nothing or a
+    // front of the refusal, and behind it whole replies and a front of what comes next.
     ensures whole { IsWhole result → (bytes : Sequence ℕ) → S.left source.old ≡ Some bytes
         → WritesText (I.draws ids.old ids.new) (T.reads clock.old clock.new) bytes (K.written sink.old) (K.written sink.new) result }
     ensures front { IsCutShort result → (bytes : Sequence ℕ) → S.left source.old ≡ Some bytes
         → WritesFront (I.draws ids.old ids.new) (T.reads clock.old clock.new) bytes (K.written sink.old) (K.written sink.new) }
 
     // A fault is told exactly where the environment failed.
-    ensures kept { (result ≡ 0) ⊎ (result ≡ 3) → (S.faults source.new ≡ S.faults source.old) × (K.faults sink.new ≡ K.faults sink.old) }
+    ensures kept { IsWhole result → (S.faults source.new ≡ S.faults source.old) × (K.faults sink.new ≡ K.faults sink.old) }
     ensures read { result ≡ 4 → Rose (S.faults source.old) (S.faults source.new) }
     ensures write { result ≡ 5 → Rose (K.faults sink.old) (K.faults sink.new) }
 {
@@ -295,13 +296,19 @@ pub fn run<S: Source, K: Sink, T: Clock, I: Ids>(
 }
 
 /// What a run writes is determined by the bytes, the ids that were drawn and the times that were read, and so
-/// is its status, but for one choice. A message that the source ended in may be such that it never becomes a
-/// request, and yet its head, as far as it goes, may go on to a whole head: as one with two Host fields and no
-/// empty line yet. There both texts are allowed, the one with the 400 of a refused message at its end and the
-/// one without it; the status is 7 for both.
+/// is its status.
 pub fn one_text()
     ensures status { (bytes : Sequence ℕ) (drawn : Sequence (Sequence ℕ)) (times : Sequence ℕ) (status : ℕ) (text : Sequence ℕ) (code : ℕ) (other : Sequence ℕ)
         → IsDryText bytes drawn times status text → IsDryText bytes drawn times code other → status ≡ code }
     ensures text { (bytes : Sequence ℕ) (drawn : Sequence (Sequence ℕ)) (times : Sequence ℕ) (status : ℕ) (text : Sequence ℕ) (code : ℕ) (other : Sequence ℕ)
-        → IsDryText bytes drawn times status text → IsDryText bytes drawn times code other → IsSameText status text other }
+        → IsDryText bytes drawn times status text → IsDryText bytes drawn times code other → text ≡ other }
+{}
+
+/// What a run that was cut short wrote is a front of what it writes when it goes on: with further ids drawn and
+/// further times read.
+pub fn cut_text_goes_on()
+    ensures { (bytes : Sequence ℕ) (drawn : Sequence (Sequence ℕ)) (times : Sequence ℕ) (front : Sequence ℕ)
+        → IsCutText bytes drawn times front
+        → (more : Sequence (Sequence ℕ)) (later : Sequence ℕ) (status : ℕ) (text : Sequence ℕ)
+        → IsDryText bytes (drawn ++ more) (times ++ later) status text → IsFront front text }
 {}

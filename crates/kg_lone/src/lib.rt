@@ -14,4 +14,4 @@ mod upstream_fields;
 mod upstream_path;
 
 pub use crate::commands::first_commands;
-pub use crate::dry::{one_text, run};
+pub use crate::dry::{cut_text_goes_on, one_text, run};

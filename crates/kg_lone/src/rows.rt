@@ -46,7 +46,10 @@ fn add_inserted(
 {
     match command {
         Command::Insert(row) => add_row(row, services, routes),
-        Command::Update(_) => Ok(()),
+        Command::Update(row) => {
+            drop(row);
+            Ok(())
+        }
         Command::Delete { .. } => Ok(()),
     }
 }
@@ -62,10 +65,25 @@ fn add_row(
     match row {
         Entity::Service(service) => services.push(service),
         Entity::Route(route) => routes.push(route),
-        Entity::Consumer(_) => Ok(()),
-        Entity::KeyCred(_) => Ok(()),
-        Entity::BasicCred(_) => Ok(()),
-        Entity::Acl(_) => Ok(()),
-        Entity::Plugin(_) => Ok(()),
+        Entity::Consumer(consumer) => {
+            drop(consumer);
+            Ok(())
+        }
+        Entity::KeyCred(key) => {
+            drop(key);
+            Ok(())
+        }
+        Entity::BasicCred(password) => {
+            drop(password);
+            Ok(())
+        }
+        Entity::Acl(group) => {
+            drop(group);
+            Ok(())
+        }
+        Entity::Plugin(plugin) => {
+            drop(plugin);
+            Ok(())
+        }
     }
 }

@@ -1,11 +1,9 @@
 //! The client's fields that the gateway passes on.
 
 ghost use Rattle.std.specs.Prelude.{◌≡◌, IfOk};
-ghost use Rattle.std.specs.List.{list_any};
-ghost use Rattle.kg_message.specs.HeaderLists.{is_named};
 ghost use Rattle.kg_lone.specs.UpstreamFields.{goes_upstream, is_stated, upstream_fields};
 
-use kg_message::{Header, Headers, is_hop_by_hop};
+use kg_message::{Header, Headers, is_among, is_hop_by_hop};
 use kg_text::{NoMemory, TryClone};
 use std::alloc::Global;
 
@@ -55,10 +53,4 @@ fn is_stated(field: &Header) -> bool
     ensures { result ≡ is_stated field.now }
 {
     is_among(&STATED_NAMES, field)
-}
-
-fn is_among(names: &[&str], field: &Header) -> bool
-    ensures { result ≡ list_any (λ name. is_named name.now field.now) names.now }
-{
-    names.iter().any(|name| field.name.same(name.as_bytes()))
 }

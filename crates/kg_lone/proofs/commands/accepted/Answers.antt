@@ -1,5 +1,6 @@
 use Rattle.std.proofs.Common.{Err, subst, sym}
-use Rattle.kg_lone.specs.FirstCommands.{AnswersLine, read_outcome, run_outcome}
+use Rattle.kg_lone.specs.FirstCommands.{run_outcome}
+use Rattle.kg_lone.specs.LineSteps.{AnswersLine, read_outcome}
 use Rattle.kg_lone.proofs.CommandLemmas.{accepts, declines}
 use Rattle.kg_lone.proofs.commands.accepted.Goals as goal
 

@@ -1,4 +1,5 @@
-use Rattle.kg_lone.proofs.CommandLemmas.{gives_commands, tells_refusal}
+use Rattle.std.proofs.Common.{ap}
+use Rattle.kg_lone.proofs.CommandLemmas.{gives_commands, tells_nothing, tells_refusal, tells_unread}
 use Rattle.kg_lone.proofs.commands.first_commands.Goals as goal
 
 -- the commands of the line
@@ -9,7 +10,7 @@ returns-in-Ok-accepted-clause-line g c =
       drawn = drew.drawn;
       moved = drew.moved;
       says = λ bytes seen.
-          gives_commands bytes c.in-Ok.line _ c.args.now c.args.limit drew.drawn c.in-Ok-accepted.commands (c.in-Ok.ensures.ok bytes seen) drew.says;
+          gives_commands c.args.now c.args.limit bytes _ _ _ drew.drawn c.in-Ok.line c.in-Ok-accepted.commands (c.in-Ok.ensures.ok bytes seen) drew.says;
     }
 
 -- its refusal, as far as it was written
@@ -20,6 +21,7 @@ returns-in-Err-Refused-clause-line g c =
       drawn = drew.drawn;
       moved = drew.moved;
       says = λ bytes seen.
-          tells_refusal bytes c.in-Ok.line _ _ _ c.args.now c.args.limit drew.drawn c.in-Err-Refused.response c.refuse.result
-          (c.in-Ok.ensures.ok bytes seen) drew.says c.refuse.ensures.whole c.refuse.ensures.front;
+          tells_refusal c.args.now c.args.limit bytes _ _ _ drew.drawn c.in-Ok.line c.in-Err-Refused.response c.refuse.result
+          (c.in-Ok.ensures.ok bytes seen) drew.says c.refuse.ensures.statuses c.refuse.ensures.whole c.refuse.ensures.front
+          (λ six. ap g.K.Sink.written (c.refuse.ensures.unwritten six));
     }

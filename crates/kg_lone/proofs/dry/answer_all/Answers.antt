@@ -2,7 +2,7 @@ use Rattle.std.proofs.Common.{◌∙◌, ◌∷◌, [], ap, sym, refl, arith}
 use Rattle.kg_outside.specs.Moves.{with_front}
 use Rattle.kg_outside.proofs.Observed.{with_front-nil}
 use Rattle.kg_wire.specs.Reading.{ReaderState}
-use Rattle.kg_lone.proofs.AnsweredLemmas.{on_err, by_rows, front_by_rows, none_answered, goes_on, ends_after, ends_asked, stopped_at_once, stopped_bad, stopped_taken, bad_ahead}
+use Rattle.kg_lone.proofs.AnsweredLemmas.{on_err, by_rows, front_by_rows, none_answered, goes_on, ends_after, ends_asked, stopped_at_once, stopped_bad, stopped_taken, bad_ahead, refused_ahead}
 use Rattle.kg_lone.proofs.dry.answer_all.Goals as goal
 
 -- nothing was written before the reader was made
@@ -70,9 +70,7 @@ returns-in_err-answer_bad-in-Err-Bad-clause-err g c =
     let ends = rw c.in-Err-Bad.field-0-is at (c.in-Err-Bad.ensures.err c.loop-count.invariant.goes_on) in
     let front = c.in_err-answer_bad-in-Err-Bad.ensures.err in
     on_err _
-    (stopped_bad _ _ _ _ _ _ _ c.loop-count.count front.0 so_far c.loop-count.invariant.few
-    (bad_ahead so_far.messages c.loop-count.count _ _ _ _ _ _ so_far.on so_far.counted c.loop-count-test.true ends.0 ends.1)
-    front.1 front.2)
+    (stopped_bad _ _ _ _ _ _ _ c.loop-count.count front.0 so_far c.loop-count-test.true (refused_ahead _ _ _ _ _ _ ends.0 ends.1) front.1 front.2)
 
 -- all of it is
 pub returns-in-Err-Bad-clause-ok : goal.returns-in-Err-Bad-clause-ok
@@ -80,5 +78,16 @@ returns-in-Err-Bad-clause-ok g c =
     let so_far = c.loop-count.invariant.answered in
     let ends = rw c.in-Err-Bad.field-0-is at (c.in-Err-Bad.ensures.err c.loop-count.invariant.goes_on) in
     ends_after _ _ _ _ _ _ _ c.loop-count.count _ so_far c.loop-count.invariant.few
-    (bad_ahead so_far.messages c.loop-count.count _ _ _ _ _ _ so_far.on so_far.counted c.loop-count-test.true ends.0 ends.1)
+    (bad_ahead so_far.messages c.loop-count.count _ so_far.on so_far.counted c.loop-count-test.true (refused_ahead _ _ _ _ _ _ ends.0 ends.1))
     c.in_ok-answer_bad-in-Err-Bad.ensures.ok
+
+-- no read failed where a message is refused or cut
+pub returns-in-Err-Bad-clause-kept_read : goal.returns-in-Err-Bad-clause-kept_read
+returns-in-Err-Bad-clause-kept_read g c =
+    let same = rw c.in-Err-Bad.field-0-is at (c.in-Err-Bad.ensures.counts c.loop-count.invariant.goes_on) in
+    same ∙ c.loop-count.invariant.kept_read
+
+pub returns-in-Err-Cut-clause-kept_read : goal.returns-in-Err-Cut-clause-kept_read
+returns-in-Err-Cut-clause-kept_read g c =
+    let same = rw c.in-Err-Cut.field-0-is at (c.in-Err-Cut.ensures.counts c.loop-count.invariant.goes_on) in
+    same ∙ c.loop-count.invariant.kept_read

@@ -1,5 +1,5 @@
-use Rattle.std.proofs.Common.{◌∷◌, [], ap}
-use Rattle.kg_lone.proofs.DryLemmas.{answered_front, answered_status, answered_text, answered_whole, first_status, refused_front, refused_whole}
+use Rattle.std.proofs.Common.{◌∷◌, [], ap, ◌∙◌}
+use Rattle.kg_lone.proofs.DryLemmas.{answered_front, answered_status, answered_text, answered_whole, first_status, is_three, refused_front, refused_whole}
 use Rattle.kg_lone.proofs.dry.dry.Goals as goal
 
 -- the status of each
@@ -31,12 +31,21 @@ returns-in-Ok-clause-front g c short bytes seen =
 pub returns-in-Err-clause-whole : goal.returns-in-Err-clause-whole
 returns-in-Err-clause-whole g c whole bytes seen =
     let drew = c.first_commands.ensures.line in
-    refused_whole _ _ bytes _ _ drew.drawn c.now-now.result c.in-Err.status drew.moved c.now-now.ensures c.in-Err.ensures.statuses whole
+    refused_whole _ _ bytes _ _ _ c.now-now.result drew.drawn c.in-Err.status drew.moved c.now-now.ensures whole
     (rw c.in-Err.is at (drew.says bytes seen))
 
 -- or a front of it
 pub returns-in-Err-clause-front : goal.returns-in-Err-clause-front
 returns-in-Err-clause-front g c short bytes seen =
     let drew = c.first_commands.ensures.line in
-    refused_front _ _ bytes _ _ drew.drawn c.now-now.result c.in-Err.status drew.moved c.now-now.ensures short
+    refused_front _ _ bytes _ _ _ c.now-now.result drew.drawn c.in-Err.status drew.moved c.now-now.ensures short
     (rw c.in-Err.is at (drew.says bytes seen))
+
+-- no fault was counted
+pub returns-in-Ok-clause-kept : goal.returns-in-Ok-clause-kept
+returns-in-Ok-clause-kept g c whole =
+    let same = c.answered.ensures.kept (answered_whole _ whole c.answered.ensures.statuses) in
+    (same.0 ∙ c.in-Ok.ensures.kept, same.1 ∙ ap g.K.Sink.faults c.in-Ok.ensures.unwritten)
+
+pub returns-in-Err-clause-kept : goal.returns-in-Err-clause-kept
+returns-in-Err-clause-kept g c whole = c.in-Err.ensures.refused (is_three _ c.in-Err.ensures.statuses whole)
