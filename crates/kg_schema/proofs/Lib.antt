@@ -1,6 +1,10 @@
 mod KeptHosts
 mod KeptIds
 mod KeptPasswords
+mod ReadBackConsumers
+mod ReadBackCredentials
+mod ReadBackParts
+mod ReadBackServices
 mod ReadHeaders
 mod ReadNumbers
 mod ReadTexts

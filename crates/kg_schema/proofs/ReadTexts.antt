@@ -142,7 +142,7 @@ list_parts false false false distinct h = cc
 list_parts false false true false h = cc
 list_parts false false true true h = (refl, refl, refl, refl)
 
-breaks_none : (kind : Word) (text : List ℕ) → (length text == 0) ≡ false → is_longer kind text ≡ false → has_form kind text ≡ true → text_rule kind text ≡ None
+pub breaks_none : (kind : Word) (text : List ℕ) → (length text == 0) ≡ false → is_longer kind text ≡ false → has_form kind text ≡ true → text_rule kind text ≡ None
 breaks_none kind text some short form = rw (some, short, form) refl
 
 -- each text of a list, from the tests of all of them

@@ -1,3 +1,4 @@
 pub mod Between
 pub mod Finished
+pub mod ReadBack
 pub mod ValidBases

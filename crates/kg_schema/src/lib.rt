@@ -6,6 +6,7 @@ mod row;
 
 pub use crate::row::{
     accepts_word, base_has_id, finish, finish_under, finished_rows_are_valid, links_are_ids,
+    shown_rows_are_read_back,
 };
 pub use kg_bodies::fields::{field_faults, members_of_a_faultless_object_are_accepted};
 pub use kg_bodies::form::{Form, FormError, read_form};

@@ -17,6 +17,7 @@ ghost use Rattle.kg_row_types.specs.ValidRows.{IsValidRow};
 mod consumer;
 mod member;
 mod plugin;
+mod read_back;
 mod route;
 mod service;
 mod tell;
@@ -27,6 +28,7 @@ use crate::row::consumer::{
     set_key, tell_acl, tell_basic, tell_consumer, tell_key,
 };
 use crate::row::plugin::{old_plugin, plugin_before, set_plugin, tell_plugin};
+pub use crate::row::read_back::shown_rows_are_read_back;
 use crate::row::route::{route_before, set_route, tell_route};
 use crate::row::service::{service_before, set_service, tell_service};
 use crate::row::tell::tell_if;

@@ -1,0 +1,7 @@
+use Rattle.kg_schema.proofs.ReadBackConsumers.{consumer_read_back}
+use Rattle.kg_schema.proofs.ReadBackCredentials.{acl_read_back, key_read_back}
+use Rattle.kg_schema.proofs.ReadBackServices.{service_read_back}
+use Rattle.kg_schema.proofs.row.read_back.shown_rows_are_read_back.Goals as goal
+
+pub returns : goal.returns
+returns c = record { services = service_read_back; consumers = consumer_read_back; keys = key_read_back; memberships = acl_read_back }

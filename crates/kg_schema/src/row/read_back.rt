@@ -1,0 +1,9 @@
+//! Shown rows make the rows again.
+
+ghost use Rattle.kg_schema.specs.ReadBack.{ReadsBackRows};
+
+/// A valid service, consumer, key or membership, as it is shown, breaks no rule of a field, and its body
+/// makes the row again: a law, for proofs.
+pub fn shown_rows_are_read_back()
+    ensures { ReadsBackRows }
+{}
