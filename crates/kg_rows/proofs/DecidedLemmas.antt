@@ -1,5 +1,5 @@
 -- What is decided is allowed.
-use Rattle.std.proofs.Common.{◌≡◌, ℕ, Bool, true, false, not, ◌&&◌, nat_lt, List, Option, None, Some, Result, Ok, Err, IfOk, if◌then◌else◌, refl, sym, ap, ap₂, subst, ◌∙◌, true≢false}
+use Rattle.std.proofs.Common.{◌≡◌, ℕ, Bool, true, false, not, ◌&&◌, nat_lt, List, Option, None, Some, option_map, Result, Ok, Err, IfOk, if◌then◌else◌, refl, sym, ap, ap₂, subst, ◌∙◌, true≢false}
 use Rattle.std.specs.Option.{option_or}
 use Rattle.serde_json.specs.Data.{Data}
 use Rattle.serde_json.specs.View.{view}
@@ -10,8 +10,8 @@ use Rattle.kg_row_types.specs.declared.entity.Entity.{Entity}
 use Rattle.kg_row_types.specs.declared.entity.Kind.{Kind}
 use Rattle.kg_row_changes.specs.Allowed.{has_named_rows, is_allowed, is_unused}
 use Rattle.kg_row_changes.specs.Claims.{claimed}
-use Rattle.kg_rows.specs.Decision.{base_by, Decides, decision, deletion, full, inserted, insertion, missing, needed, patched, proposed, put, put_over, replaced, still_named, taken_by_other, unless, violation}
-use Rattle.kg_rows.specs.References.{link_of, links_in, links_of, lost_field, meant_in, strange_field}
+use Rattle.kg_rows.specs.Decision.{base_by, own_id, Supply, Decides, decision, deletion, full, inserted, insertion, missing, needed, patched, proposed, put, put_over, replaced, still_named, taken_by_other, unless, violation}
+use Rattle.kg_rows.specs.References.{contradicted_field, dangling_field, fixed_links, link_of, links_in, links_of, targets_in}
 use Rattle.kg_rows.specs.Selections.{place_of, rows_in, selected}
 use Rattle.kg_row_values.specs.declared.command.Command.{Command}
 use Rattle.kg_row_values.specs.declared.command.Command.TheVariants as command
@@ -25,7 +25,7 @@ use Rattle.kg_rows.specs.declared.select.Parent.{Parent}
 use Rattle.kg_rows.specs.declared.select.Select.{Select}
 use Rattle.kg_rows.proofs.AnswerLemmas.{needed_parts, ok_is, then_parts, unless_none, unless_rest, unmapped}
 use Rattle.kg_rows.proofs.FoundLemmas.{is_there}
-use Rattle.kg_rows.proofs.FreeLemmas.{covers_new, covers_old, CoversOthers, has_new_id, has_what_it_names, is_unique_row, or_first, or_second}
+use Rattle.kg_rows.proofs.FreeLemmas.{has_new_id, has_what_it_names, is_unique_new, is_unique_old, or_first, or_second}
 use Rattle.kg_rows.proofs.MadeLemmas.{id_over_again, id_over_old, kind_over}
 use Rattle.kg_row_making.specs.Bases.{BaseValue, Again, New, Old, made_at}
 use Rattle.kg_schema.specs.Between.{faults_between}
@@ -43,32 +43,35 @@ pub record IsFit (rows : RowLists) (new : Entity) (replaced_id : Option ℕ) : T
   pub named : has_named_rows new rows ≡ true
   pub free : claimed new replaced_id rows ≡ None
 
-module _ (rows : RowLists) (of_kind : Kind) (body : Data) (base : BaseValue) (above : Links) (replaced_id : Option ℕ) where
-  abbrev made : Entity
-  made = row_over of_kind body base (links_in above (meant_in body rows))
+module _ (rows : RowLists) (of_kind : Kind) (body : Data) (base : BaseValue) (above : Links) (present : Option Entity) where
+  abbrev links : Links
+  links = links_in (own_id base) above (targets_in body rows)
 
-  abbrev lost : Option (List ℕ)
-  lost = lost_field rows above (meant_in body rows) (links_of made)
+  abbrev made : Entity
+  made = row_over of_kind body base links
+
+  abbrev dangling : Option (List ℕ)
+  dangling = dangling_field rows above (targets_in body rows) (links_of made)
 
   abbrev claim : Option (List ℕ × ℕ)
-  claim = claimed made replaced_id rows
+  claim = claimed made (option_map id_of_row present) rows
 
   abbrev refused : Option Refusal
-  refused = option_or (missing lost) (taken_by_other claim)
+  refused = option_or (missing dangling) (taken_by_other claim)
 
-  is_later : (new : Entity) → proposed rows of_kind body base above replaced_id ≡ Ok new → unless refused (Ok made) ≡ Ok new
+  is_later : (new : Entity) → proposed rows of_kind body base above present ≡ Ok new → unless refused (Ok made) ≡ Ok new
   unfolding proposed
-  is_later new same = unless_rest (violation (faults_between of_kind body base (links_in above (meant_in body rows)) (strange_field above (meant_in body rows)))) (unless refused (Ok made)) new same
+  is_later new same = unless_rest (violation (faults_between of_kind body base links (contradicted_field (fixed_links above present) (targets_in body rows)))) (unless refused (Ok made)) new same
 
-  is_made : (new : Entity) → proposed rows of_kind body base above replaced_id ≡ Ok new → made ≡ new
+  is_made : (new : Entity) → proposed rows of_kind body base above present ≡ Ok new → made ≡ new
   is_made new same = ok_is (unless_rest refused (Ok made) new (is_later new same))
 
-  is_fit : (new : Entity) → proposed rows of_kind body base above replaced_id ≡ Ok new → IsFit rows made replaced_id
+  is_fit : (new : Entity) → proposed rows of_kind body base above present ≡ Ok new → IsFit rows made (option_map id_of_row present)
   is_fit new same =
       let none : refused ≡ None = unless_none refused (Ok made) new (is_later new same) in
       record {
-        named = has_what_it_names made rows above (meant_in body rows) (unmapped _ lost (or_first (missing lost) (taken_by_other claim) none));
-        free = unmapped _ claim (or_second (missing lost) (taken_by_other claim) none);
+        named = has_what_it_names made rows above (targets_in body rows) (unmapped _ dangling (or_first (missing dangling) (taken_by_other claim) none));
+        free = unmapped _ claim (or_second (missing dangling) (taken_by_other claim) none);
       }
 
 -- ---- new rows
@@ -84,8 +87,8 @@ module _ (rows : RowLists) (of_kind : Kind) (body : Data) (base : BaseValue) (ab
   new_row_is_allowed : IsFit rows new_row None → full of_kind rows limit ≡ None → is_allowed rows (command.Insert new_row) limit ≡ true
   new_row_is_allowed fit room =
       ap₂ (λ p q. p && q)
-      (three _ _ _ (ap not (has_new_id rows new_row fit.free)) fit.named (is_unique_row rows None new_row (covers_new (id_of_row new_row)) fit.free))
-      (ap (λ k. nat_lt (count_of k rows) limit) (kind_over of_kind body base (links_in above (meant_in body rows))) ∙ room_left (nat_lt (count_of of_kind rows) limit) room)
+      (three _ _ _ (ap not (has_new_id rows new_row fit.free)) fit.named (is_unique_new rows new_row fit.free))
+      (ap (λ k. nat_lt (count_of k rows) limit) (kind_over of_kind body base (links_in (own_id base) above (targets_in body rows))) ∙ room_left (nat_lt (count_of of_kind rows) limit) room)
 
   inserted_is_allowed : (done : Command) → inserted rows of_kind body base above limit ≡ Ok done → is_allowed rows done limit ≡ true
   unfolding inserted
@@ -99,25 +102,27 @@ module _ (rows : RowLists) (of_kind : Kind) (body : Data) (base : BaseValue) (ab
 
 -- ---- rows in the place of others
 
-module _ (rows : RowLists) (of_kind : Kind) (body : Data) (base : BaseValue) (above : Links) (id : ℕ) where
+module _ (rows : RowLists) (of_kind : Kind) (body : Data) (base : BaseValue) (above : Links) (old : Entity) where
   abbrev other_row : Entity
-  other_row = made rows of_kind body base above (Some id)
+  other_row = made rows of_kind body base above (Some old)
 
-  other_row_is_allowed : (limit : ℕ) → id_of_row other_row ≡ id → has_row of_kind id rows ≡ true → IsFit rows other_row (Some id) → is_allowed rows (command.Update other_row) limit ≡ true
+  other_row_is_allowed : (limit : ℕ) → id_of_row other_row ≡ id_of_row old → has_row of_kind (id_of_row old) rows ≡ true → IsFit rows other_row (Some (id_of_row old))
+      → is_allowed rows (command.Update other_row) limit ≡ true
   other_row_is_allowed limit same_id there fit =
       ap (λ p. p && true)
       (three _ _ _
-      (ap₂ (λ k i. has_row k i rows) (kind_over of_kind body base (links_in above (meant_in body rows))) same_id ∙ there)
+      (ap₂ (λ k i. has_row k i rows) (kind_over of_kind body base (links_in (own_id base) above (targets_in body rows))) same_id ∙ there)
       fit.named
-      (is_unique_row rows (Some id) other_row (subst (λ i. CoversOthers (Some id) i) (sym same_id) (covers_old id)) fit.free))
+      (is_unique_old rows other_row (subst (λ i. claimed other_row (Some i) rows ≡ None) (sym same_id) fit.free)))
 
-  replaced_is_allowed : (limit : ℕ) (done : Command) → id_of_row other_row ≡ id → has_row of_kind id rows ≡ true → replaced rows of_kind body base above id ≡ Ok done → is_allowed rows done limit ≡ true
+  replaced_is_allowed : (limit : ℕ) (done : Command) → id_of_row other_row ≡ id_of_row old → has_row of_kind (id_of_row old) rows ≡ true
+      → replaced rows of_kind body base above old ≡ Ok done → is_allowed rows done limit ≡ true
   unfolding replaced
   replaced_is_allowed limit done same_id there same =
-      let parts = then_parts (proposed rows of_kind body base above (Some id)) (λ new. Ok (command.Update new)) done same in
-      let same_row : other_row ≡ parts.0 = is_made rows of_kind body base above (Some id) parts.0 parts.1 in
+      let parts = then_parts (proposed rows of_kind body base above (Some old)) (λ new. Ok (command.Update new)) done same in
+      let same_row : other_row ≡ parts.0 = is_made rows of_kind body base above (Some old) parts.0 parts.1 in
       subst (λ c. is_allowed rows c limit ≡ true) (ap command.Update same_row ∙ ok_is parts.2)
-      (other_row_is_allowed limit same_id there (is_fit rows of_kind body base above (Some id) parts.0 parts.1))
+      (other_row_is_allowed limit same_id there (is_fit rows of_kind body base above (Some old) parts.0 parts.1))
 
 -- ---- drafts
 
@@ -130,30 +135,30 @@ insertion_is_allowed rows of_kind parent body id now limit done same =
 patched_is_allowed : (rows : RowLists) (of_kind : Kind) (parent : Option Parent) (select : Select) (body : Data) (now limit : ℕ) (done : Command)
     → patched rows of_kind parent select body now ≡ Ok done → is_allowed rows done limit ≡ true
 patched_is_allowed rows of_kind parent select body now limit done same =
-    let parts = needed_parts (place_of parent rows) (λ place. needed (selected of_kind select (rows_in place rows)) (λ old. replaced rows of_kind body (Old old now) (link_of place) (id_of_row old))) done same in
-    let further = needed_parts (selected of_kind select (rows_in parts.0 rows)) (λ old. replaced rows of_kind body (Old old now) (link_of parts.0) (id_of_row old)) done parts.2 in
-    replaced_is_allowed rows of_kind body (Old further.0 now) (link_of parts.0) (id_of_row further.0) limit done
-    (id_over_old of_kind body further.0 now (links_in (link_of parts.0) (meant_in body rows)))
+    let parts = needed_parts (place_of parent rows) (λ place. needed (selected of_kind select (rows_in place rows)) (λ old. replaced rows of_kind body (Old old now) (link_of place) old)) done same in
+    let further = needed_parts (selected of_kind select (rows_in parts.0 rows)) (λ old. replaced rows of_kind body (Old old now) (link_of parts.0) old) done parts.2 in
+    replaced_is_allowed rows of_kind body (Old further.0 now) (link_of parts.0) further.0 limit done
+    (id_over_old of_kind body further.0 now (links_in (id_of_row further.0) (link_of parts.0) (targets_in body rows)))
     (is_there rows parts.0 of_kind select further.0 further.1)
     further.2
 
-put_over_is_allowed : (rows : RowLists) (place : Place) (of_kind : Kind) (select : Select) (body : Data) (id now limit : ℕ) (done : Command) (old : Option Entity)
+put_over_is_allowed : (rows : RowLists) (place : Place) (of_kind : Kind) (select : Select) (body : Data) (supply : Supply) (done : Command) (old : Option Entity)
     → selected of_kind select (rows_in place rows) ≡ old
-    → put_over rows of_kind select body (link_of place) id now limit old ≡ Ok done → is_allowed rows done limit ≡ true
-put_over_is_allowed rows place of_kind select body id now limit done (Some old) found same =
-    replaced_is_allowed rows of_kind body (Again (id_of_row old) (made_at old) now) (link_of place) (id_of_row old) limit done
-    (id_over_again of_kind body (id_of_row old) (made_at old) now (links_in (link_of place) (meant_in body rows)))
+    → put_over rows of_kind select body (link_of place) supply old ≡ Ok done → is_allowed rows done supply.limit ≡ true
+put_over_is_allowed rows place of_kind select body supply done (Some old) found same =
+    replaced_is_allowed rows of_kind body (Again (id_of_row old) (made_at old) supply.now) (link_of place) old supply.limit done
+    (id_over_again of_kind body (id_of_row old) (made_at old) supply.now (links_in (id_of_row old) (link_of place) (targets_in body rows)))
     (is_there rows place of_kind select old found)
     same
-put_over_is_allowed rows place of_kind select body id now limit done None found same =
-    let parts = needed_parts (base_by of_kind select id now) (λ new. inserted rows of_kind body new (link_of place) limit) done same in
-    inserted_is_allowed rows of_kind body parts.0 (link_of place) limit done parts.2
+put_over_is_allowed rows place of_kind select body supply done None found same =
+    let parts = needed_parts (base_by of_kind select supply.id supply.now) (λ new. inserted rows of_kind body new (link_of place) supply.limit) done same in
+    inserted_is_allowed rows of_kind body parts.0 (link_of place) supply.limit done parts.2
 
-put_is_allowed : (rows : RowLists) (of_kind : Kind) (parent : Option Parent) (select : Select) (body : Data) (id now limit : ℕ) (done : Command)
-    → put rows of_kind parent select body id now limit ≡ Ok done → is_allowed rows done limit ≡ true
-put_is_allowed rows of_kind parent select body id now limit done same =
-    let parts = needed_parts (place_of parent rows) (λ place. put_over rows of_kind select body (link_of place) id now limit (selected of_kind select (rows_in place rows))) done same in
-    put_over_is_allowed rows parts.0 of_kind select body id now limit done (selected of_kind select (rows_in parts.0 rows)) refl parts.2
+put_is_allowed : (rows : RowLists) (of_kind : Kind) (parent : Option Parent) (select : Select) (body : Data) (supply : Supply) (done : Command)
+    → put rows of_kind parent select body supply ≡ Ok done → is_allowed rows done supply.limit ≡ true
+put_is_allowed rows of_kind parent select body supply done same =
+    let parts = needed_parts (place_of parent rows) (λ place. put_over rows of_kind select body (link_of place) supply (selected of_kind select (rows_in place rows))) done same in
+    put_over_is_allowed rows parts.0 of_kind select body supply done (selected of_kind select (rows_in parts.0 rows)) refl parts.2
 
 not_named : (b : Bool) (refusal : Refusal) → (if b then None else Some refusal) ≡ None → b ≡ true
 not_named true refusal none = refl
@@ -172,7 +177,7 @@ deletion_is_allowed rows of_kind parent select limit done same =
 pub is_allowed_if_decided : (rows : RowLists) (draft : Draft) (limit : ℕ) (done : Command) → decision rows draft limit ≡ Ok done → is_allowed rows done limit ≡ true
 is_allowed_if_decided rows (Insert of_kind parent form id now) limit done same = insertion_is_allowed rows of_kind parent (view form.body) id now limit done same
 is_allowed_if_decided rows (Patch of_kind parent select form now) limit done same = patched_is_allowed rows of_kind parent select (view form.body) now limit done same
-is_allowed_if_decided rows (Put of_kind parent select form id now) limit done same = put_is_allowed rows of_kind parent select (view form.body) id now limit done same
+is_allowed_if_decided rows (Put of_kind parent select form id now) limit done same = put_is_allowed rows of_kind parent select (view form.body) (record { id = id; now = now; limit = limit }) done same
 is_allowed_if_decided rows (Delete of_kind parent select) limit done same = deletion_is_allowed rows of_kind parent select limit done same
 
 pub is_allowed_if_ok : (rows : RowLists) (draft : Draft) (limit : ℕ) (answer : Result Command DecideError) → Decides answer (decision rows draft limit) → IfOk answer (λ done. is_allowed rows done limit ≡ true)

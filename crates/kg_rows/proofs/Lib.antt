@@ -3,5 +3,6 @@ mod DecidedLemmas
 mod FoundLemmas
 mod FreeLemmas
 mod MadeLemmas
+mod PageLemmas
 mod RefusalLemmas
-mod ValidDecisions
+mod ValidFound

@@ -15,7 +15,7 @@ use Rattle.kg_row_types.specs.declared.entity.Kind.{Kind}
 use Rattle.kg_row_types.specs.declared.entity.Kind.TheVariants as kind
 use Rattle.kg_row_changes.specs.Allowed.{is_unused}
 use Rattle.kg_row_changes.specs.Claims.{claimed}
-use Rattle.kg_rows.specs.References.{link_of, links_in, links_of, lost_field, meant_in, strange_field}
+use Rattle.kg_rows.specs.References.{contradicted_field, dangling_field, fixed_links, link_of, links_in, links_of, targets_in}
 use Rattle.kg_rows.specs.Selections.{place_of, rows_in, selected}
 use Rattle.kg_row_values.specs.declared.command.Command.{Command}
 use Rattle.kg_row_values.specs.declared.command.Command.TheVariants as command
@@ -25,7 +25,7 @@ use Rattle.kg_rows.specs.declared.draft.Draft.{Draft}
 use Rattle.kg_rows.specs.declared.draft.Draft.TheVariants.{Insert, Patch, Put, Delete}
 use Rattle.kg_rows.specs.declared.draft.Refusal.{Refusal}
 use Rattle.kg_rows.specs.declared.draft.Refusal.TheVariants.{NotFound, Violation, Foreign, Unique, Full}
-use Rattle.kg_rows.specs.declared.meaning.Meanings.{Meanings}
+use Rattle.kg_rows.specs.declared.target.Targets.{Targets}
 use Rattle.kg_rows.specs.declared.select.Parent.{Parent}
 use Rattle.kg_rows.specs.declared.select.Select.{Select}
 use Rattle.kg_rows.specs.declared.select.Select.TheVariants.{Id, Word}
@@ -73,28 +73,36 @@ still_named kind id rows = if is_unused kind id rows then None else Some (Foreig
 
 -- ---- rows
 
--- why the rows refuse a finished row: what it names isn't there, or another row has what only one may have
-abbrev pub conflict : RowLists → Links → Meanings → Entity → Option ℕ → Option Refusal
-conflict rows above meant row replaced =
-    option_or (missing (lost_field rows above meant (links_of row))) (taken_by_other (claimed row replaced rows))
+-- the id of the row that isn't there yet, or of the old row
+abbrev pub own_id : BaseValue → ℕ
+own_id (base.New id now) = id
+own_id (base.Again id created_at now) = id
+own_id (base.Word id word now) = id
+own_id (base.Old old now) = id_of_row old
 
--- the row that a body makes over a base, under a parent or alone, in the place of a row or as a new one
-unfoldable pub proposed : RowLists → Kind → Data → BaseValue → Links → Option ℕ → Result Entity Refusal
-proposed rows kind body base above replaced =
-    let meant = meant_in body rows in
-    let row = row_over kind body base (links_in above meant) in
-    unless (violation (faults_between kind body base (links_in above meant) (strange_field above meant)))
-    (unless (conflict rows above meant row replaced) (Ok row))
+-- why the rows refuse a finished row: what it names isn't there, or another row has what only one may have
+abbrev pub conflict : RowLists → Links → Targets → Entity → Option ℕ → Option Refusal
+conflict rows above targets row replaced =
+    option_or (missing (dangling_field rows above targets (links_of row))) (taken_by_other (claimed row replaced rows))
+
+-- the row that a body makes over a base, under a parent or alone, in the place of a present row or as a new one
+unfoldable pub proposed : RowLists → Kind → Data → BaseValue → Links → Option Entity → Result Entity Refusal
+proposed rows kind body base above present =
+    let targets = targets_in body rows in
+    let links = links_in (own_id base) above targets in
+    let row = row_over kind body base links in
+    unless (violation (faults_between kind body base links (contradicted_field (fixed_links above present) targets)))
+    (unless (conflict rows above targets row (option_map id_of_row present)) (Ok row))
 
 -- a new row
 unfoldable pub inserted : RowLists → Kind → Data → BaseValue → Links → ℕ → Result Command Refusal
 inserted rows kind body base above limit =
     and_then (proposed rows kind body base above None) (λ row. unless (full kind rows limit) (Ok (command.Insert row)))
 
--- a row in the place of the one of its id
-unfoldable pub replaced : RowLists → Kind → Data → BaseValue → Links → ℕ → Result Command Refusal
-replaced rows kind body base above id =
-    and_then (proposed rows kind body base above (Some id)) (λ row. Ok (command.Update row))
+-- a row in the place of a present one
+unfoldable pub replaced : RowLists → Kind → Data → BaseValue → Links → Entity → Result Command Refusal
+replaced rows kind body base above present =
+    and_then (proposed rows kind body base above (Some present)) (λ row. Ok (command.Update row))
 
 -- ---- rows that are made by their id or word
 
@@ -120,19 +128,25 @@ insertion rows kind parent body id now limit =
 abbrev pub patched : RowLists → Kind → Option Parent → Select → Data → ℕ → Result Command Refusal
 patched rows kind parent select body now =
     needed (place_of parent rows) (λ place. needed (selected kind select (rows_in place rows)) (λ old.
-    replaced rows kind body (base.Old old now) (link_of place) (id_of_row old)))
+    replaced rows kind body (base.Old old now) (link_of place) old))
 
--- the row as it is made again, where it is there
-abbrev pub put_over : RowLists → Kind → Select → Data → Links → ℕ → ℕ → ℕ → Option Entity → Result Command Refusal
-put_over rows kind select body above id now limit (Some old) =
-    replaced rows kind body (base.Again (id_of_row old) (made_at old) now) above (id_of_row old)
-put_over rows kind select body above id now limit None =
-    needed (base_by kind select id now) (λ new. inserted rows kind body new above limit)
+-- what a row that is put may need: an id that was drawn, the clock, and how many rows a kind may have
+pub record Supply : Type 0 where
+  pub id : ℕ
+  pub now : ℕ
+  pub limit : ℕ
 
-abbrev pub put : RowLists → Kind → Option Parent → Select → Data → ℕ → ℕ → ℕ → Result Command Refusal
-put rows kind parent select body id now limit =
+-- the row as it is made again, where it is there; else a new one
+abbrev pub put_over : RowLists → Kind → Select → Data → Links → Supply → Option Entity → Result Command Refusal
+put_over rows kind select body above supply (Some old) =
+    replaced rows kind body (base.Again (id_of_row old) (made_at old) supply.now) above old
+put_over rows kind select body above supply None =
+    needed (base_by kind select supply.id supply.now) (λ new. inserted rows kind body new above supply.limit)
+
+abbrev pub put : RowLists → Kind → Option Parent → Select → Data → Supply → Result Command Refusal
+put rows kind parent select body supply =
     needed (place_of parent rows) (λ place.
-    put_over rows kind select body (link_of place) id now limit (selected kind select (rows_in place rows)))
+    put_over rows kind select body (link_of place) supply (selected kind select (rows_in place rows)))
 
 abbrev pub deletion : RowLists → Kind → Option Parent → Select → Result Command Refusal
 deletion rows kind parent select =
@@ -143,7 +157,7 @@ deletion rows kind parent select =
 abbrev pub decision : RowLists → Draft → ℕ → Result Command Refusal
 decision rows (Insert kind parent form id now) limit = insertion rows kind parent (view form.body) id now limit
 decision rows (Patch kind parent select form now) limit = patched rows kind parent select (view form.body) now
-decision rows (Put kind parent select form id now) limit = put rows kind parent select (view form.body) id now limit
+decision rows (Put kind parent select form id now) limit = put rows kind parent select (view form.body) (record { id = id; now = now; limit = limit })
 decision rows (Delete kind parent select) limit = deletion rows kind parent select
 
 -- ---- what is asked of a draft, and of an answer

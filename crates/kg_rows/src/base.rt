@@ -1,11 +1,12 @@
 //! What a row is made over that isn't there yet.
 
-ghost use Rattle.std.specs.Prelude.{◌≡◌, IfOk, option_map};
-ghost use Rattle.kg_rows.specs.Decision.{base_by, base_by_text, base_by_word};
-ghost use Rattle.kg_row_making.specs.Bases.{base_of, made_at};
+ghost use Rattle.std.specs.Prelude.{◌≡◌, IfOk, IfSome, option_map};
+ghost use Rattle.kg_rows.specs.Decision.{base_by, base_by_text, base_by_word, own_id};
+ghost use Rattle.kg_row_making.specs.Bases.{base_of};
+ghost use Rattle.kg_schema.specs.ValidBases.{IsValidBase};
 
 use crate::select::Select;
-use kg_entities::{Entity, Id, Kind};
+use kg_entities::{Id, Kind};
 use kg_schema::{Base, accepts_word};
 use kg_text::{NoMemory, Text};
 use std::alloc::Global;
@@ -19,7 +20,8 @@ pub fn base_by(
     id: Id,
     now: u64,
 ) -> Result<Option<Base<'_>>, NoMemory>
-    ensures { IfOk result (λ base. option_map base_of base ≡ base_by kind select.now id now) }
+    ensures base { IfOk result (λ base. option_map base_of base ≡ base_by kind select.now id now) }
+    ensures valid { IfOk result (λ base. IfSome base (λ b. IsValidBase kind (base_of b))) }
 {
     match select {
         Select::Id(own) => Ok(Some(Base::Again {
@@ -39,7 +41,8 @@ fn base_by_text(
     id: Id,
     now: u64,
 ) -> Result<Option<Base<'_>>, NoMemory>
-    ensures { IfOk result (λ base. option_map base_of base ≡ base_by_text kind text.now id now) }
+    ensures base { IfOk result (λ base. option_map base_of base ≡ base_by_text kind text.now id now) }
+    ensures valid { IfOk result (λ base. IfSome base (λ b. IsValidBase kind (base_of b))) }
 {
     match kind {
         Kind::KeyCred => match Id::parse(text.as_bytes()) {
@@ -66,7 +69,8 @@ fn base_by_word(
     id: Id,
     now: u64,
 ) -> Result<Option<Base<'_>>, NoMemory>
-    ensures { IfOk result (λ base. option_map base_of base ≡ base_by_word kind word.now id now) }
+    ensures base { IfOk result (λ base. option_map base_of base ≡ base_by_word kind word.now id now) }
+    ensures valid { IfOk result (λ base. IfSome base (λ b. IsValidBase kind (base_of b))) }
 {
     if accepts_word(alloc, kind, word)? {
         Ok(Some(Base::Word { id, word, now }))
@@ -75,17 +79,14 @@ fn base_by_word(
     }
 }
 
-/// The time at which a row was made, in seconds.
-pub fn made_at(row: &Entity) -> u64
-    ensures { result ≡ made_at row.now }
+/// The id of the row that isn't there yet, or of the old row.
+pub fn own_id(base: &Base<'_>) -> Id
+    ensures { result ≡ own_id (base_of base.now) }
 {
-    match row {
-        Entity::Service(row) => row.created_at,
-        Entity::Route(row) => row.created_at,
-        Entity::Consumer(row) => row.created_at,
-        Entity::KeyCred(row) => row.created_at,
-        Entity::BasicCred(row) => row.created_at,
-        Entity::Acl(row) => row.created_at,
-        Entity::Plugin(row) => row.created_at,
+    match base {
+        Base::New { id, .. } => *id,
+        Base::Again { id, .. } => *id,
+        Base::Word { id, .. } => *id,
+        Base::Old { row, .. } => row.id(),
     }
 }

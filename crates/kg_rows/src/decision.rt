@@ -1,27 +1,29 @@
 //! What is decided of a change that is asked for.
 
-ghost use Rattle.std.specs.Prelude.{◌≡◌, Ok, IfOk, IsTrue};
+ghost use Rattle.std.specs.Prelude.{◌≡◌, Ok, IfOk, IfSome, IsTrue, option_map};
 ghost use Rattle.serde_json.specs.View.{view};
 ghost use Rattle.kg_row_changes.specs.Allowed.{is_allowed};
 ghost use Rattle.kg_rows.specs.Decision.{Decides, IsProper, decision, deletion, insertion, patched, put_over, replaced, still_named, unless};
 ghost use Rattle.kg_rows.specs.References.{link_of};
-ghost use Rattle.kg_row_making.specs.Bases as base_again;
+ghost use Rattle.kg_row_making.specs.Bases as over;
 ghost use Rattle.kg_row_making.specs.Bases.{made_at};
 ghost use Rattle.kg_row_types.specs.Entities.{id_of_row};
-ghost use Rattle.kg_row_types.specs.ValidRows.{AreValidRows};
+ghost use Rattle.kg_row_types.specs.ValidRows.{AreValidRows, IsValidRow};
 ghost use Rattle.kg_row_changes.specs.ValidCommands.{IsValidCommand};
+ghost use Rattle.kg_rows.specs.RowRefs.{row_at};
 ghost use Rattle.kg_rows.specs.Selections.{rows_in, selected};
 ghost use Rattle.kg_row_values.specs.declared.command.Command.TheVariants as command;
 
-use crate::base::{base_by, made_at};
+use crate::base::base_by;
 use crate::draft::{DecideError, Draft, Refusal};
 use crate::place::{Place, link_of, place_of, selected_in};
 use crate::proposal::{inserted, replaced};
+use crate::row_ref::RowRef;
 use crate::select::{Parent, Select};
-use kg_entities::{Entity, Id, Kind, Rows};
+use kg_entities::{Id, Kind, Rows};
 use kg_row_changes::admit::is_unused;
 use kg_row_values::command::Command;
-use kg_schema::{Base, Form, Links, finished_rows_are_valid};
+use kg_schema::{Base, Form, Links};
 use kg_text::{NoMemory, Text};
 use std::alloc::Global;
 
@@ -34,13 +36,13 @@ pub fn decide(alloc: Global, rows: &Rows, draft: &Draft, limit: u32) -> Result<C
     ensures allowed { IfOk result (λ command. IsTrue (is_allowed rows.now command limit)) }
     ensures valid { AreValidRows rows.now → IfOk result IsValidCommand }
 {
-    finished_rows_are_valid();
     decided(alloc, rows, draft, limit)
 }
 
 fn decided(alloc: Global, rows: &Rows, draft: &Draft, limit: u32) -> Result<Command, DecideError>
     requires { IsProper draft.now }
-    ensures { Decides result (decision rows.now draft.now limit) }
+    ensures decision { Decides result (decision rows.now draft.now limit) }
+    ensures valid { AreValidRows rows.now → IfOk result IsValidCommand }
 {
     match draft {
         Draft::Insert {
@@ -64,7 +66,7 @@ fn decided(alloc: Global, rows: &Rows, draft: &Draft, limit: u32) -> Result<Comm
             form,
             id,
             now,
-        } => match place_of(alloc, rows, parent)? {
+        } => match place_of(rows, parent) {
             Some(place) => put(alloc, rows, *kind, &place, select, form, *id, *now, limit),
             None => Err(DecideError::Refused(Refusal::NotFound)),
         },
@@ -85,9 +87,10 @@ fn insertion(
     now: u64,
     limit: u32,
 ) -> Result<Command, DecideError>
-    ensures { Decides result (insertion rows.now form.now.kind parent.now (view form.now.body) id now limit) }
+    ensures decided { Decides result (insertion rows.now form.now.kind parent.now (view form.now.body) id now limit) }
+    ensures valid { IfOk result IsValidCommand }
 {
-    match place_of(alloc, rows, parent)? {
+    match place_of(rows, parent) {
         Some(place) => {
             let base = Base::New { id, now };
             let above = link_of(&place);
@@ -107,20 +110,43 @@ fn patched(
     now: u64,
 ) -> Result<Command, DecideError>
     requires { form.now.kind ≡ kind }
-    ensures { Decides result (patched rows.now kind parent.now select.now (view form.now.body) now) }
+    ensures decided { Decides result (patched rows.now kind parent.now select.now (view form.now.body) now) }
+    ensures valid { AreValidRows rows.now → IfOk result IsValidCommand }
 {
-    match place_of(alloc, rows, parent)? {
-        Some(place) => match selected_in(alloc, rows, kind, &place, select)? {
-            Some(old) => {
-                let id = old.id();
-                let base = Base::Old { row: &old, now };
-                let above = link_of(&place);
-                replaced(alloc, rows, form, &base, &above, id)
-            }
+    match place_of(rows, parent) {
+        Some(place) => match present(rows, kind, &place, select) {
+            Some(old) => changed(alloc, rows, form, &link_of(&place), old, now),
             None => Err(DecideError::Refused(Refusal::NotFound)),
         },
         None => Err(DecideError::Refused(Refusal::NotFound)),
     }
+}
+
+// The row that is meant, among those in a place; it is valid where all are.
+fn present<'r>(rows: &'r Rows, kind: Kind, place: &Place, select: &Select) -> Option<RowRef<'r>>
+    ensures row { option_map row_at result ≡ selected kind select.now (rows_in place.now rows.now) }
+    ensures valid { AreValidRows rows.now → IfSome result (λ row. IsValidRow (row_at row)) }
+{
+    selected_in(rows, kind, place, select)
+}
+
+// The fields of a row that the form sets are changed.
+fn changed(
+    alloc: Global,
+    rows: &Rows,
+    form: &Form,
+    above: &Links,
+    old: RowRef<'_>,
+    now: u64,
+) -> Result<Command, DecideError>
+    ensures decided { Decides result (replaced rows.now form.now.kind (view form.now.body) (over.Old (row_at old.entry) now) above.now (row_at old.entry)) }
+    ensures valid { IsValidRow (row_at old.entry) → IfOk result IsValidCommand }
+{
+    let row = old.copy(alloc)?;
+    let base = Base::Old { row: &row, now };
+    let answer = replaced(alloc, rows, form, &base, above, old);
+    drop(row);
+    answer
 }
 
 fn put(
@@ -135,11 +161,12 @@ fn put(
     limit: u32,
 ) -> Result<Command, DecideError>
     requires { form.now.kind ≡ kind }
-    ensures { Decides result (put_over rows.now kind select.now (view form.now.body) (link_of place.now) id now limit (selected kind select.now (rows_in place.now rows.now))) }
+    ensures decided { Decides result (put_over rows.now kind select.now (view form.now.body) (link_of place.now) (record { id = id; now = now; limit = limit }) (selected kind select.now (rows_in place.now rows.now))) }
+    ensures valid { IfOk result IsValidCommand }
 {
     let above = link_of(place);
-    match selected_in(alloc, rows, kind, place, select)? {
-        Some(old) => put_again(alloc, rows, form, &above, &old, now),
+    match selected_in(rows, kind, place, select) {
+        Some(old) => put_again(alloc, rows, form, &above, old, now),
         None => match base_by(alloc, kind, select, id, now) {
             Ok(Some(base)) => inserted(alloc, rows, form, &base, &above, limit),
             Ok(None) => Err(DecideError::Refused(Refusal::NotFound)),
@@ -154,19 +181,20 @@ fn put_again(
     rows: &Rows,
     form: &Form,
     above: &Links,
-    old: &Entity,
+    old: RowRef<'_>,
     now: u64,
 ) -> Result<Command, DecideError>
-    ensures { Decides result (replaced rows.now form.now.kind (view form.now.body) (base_again.Again (id_of_row old.now) (made_at old.now) now) above.now (id_of_row old.now)) }
+    ensures decided { Decides result (replaced rows.now form.now.kind (view form.now.body) (over.Again (id_of_row (row_at old.entry)) (made_at (row_at old.entry)) now) above.now (row_at old.entry)) }
+    ensures valid { IfOk result IsValidCommand }
 {
     let id = old.id();
-    let created_at = made_at(old);
+    let created_at = old.made_at();
     let base = Base::Again {
         id,
         created_at,
         now,
     };
-    replaced(alloc, rows, form, &base, above, id)
+    replaced(alloc, rows, form, &base, above, old)
 }
 
 fn deletion(
@@ -176,10 +204,11 @@ fn deletion(
     parent: &Option<Parent>,
     select: &Select,
 ) -> Result<Command, DecideError>
-    ensures { Decides result (deletion rows.now kind parent.now select.now) }
+    ensures decided { Decides result (deletion rows.now kind parent.now select.now) }
+    ensures valid { IfOk result IsValidCommand }
 {
-    match place_of(alloc, rows, parent)? {
-        Some(place) => match selected_in(alloc, rows, kind, &place, select)? {
+    match place_of(rows, parent) {
+        Some(place) => match selected_in(rows, kind, &place, select) {
             Some(old) => deleted(alloc, rows, kind, old.id()),
             None => Err(DecideError::Refused(Refusal::NotFound)),
         },
@@ -188,7 +217,8 @@ fn deletion(
 }
 
 fn deleted(alloc: Global, rows: &Rows, kind: Kind, id: Id) -> Result<Command, DecideError>
-    ensures { Decides result (unless (still_named kind id rows.now) (Ok (command.Delete kind id))) }
+    ensures decided { Decides result (unless (still_named kind id rows.now) (Ok (command.Delete kind id))) }
+    ensures valid { IfOk result IsValidCommand }
 {
     if is_unused(kind, id, rows) {
         return Ok(Command::Delete { kind, id });

@@ -1,63 +1,55 @@
 //! Rows as they are named from outside.
 
-ghost use Rattle.std.specs.Prelude.{◌≡◌, ◌==◌, IfOk, find, option_map};
+ghost use Rattle.std.specs.Prelude.{◌≡◌, ◌==◌, find, option_map};
 ghost use Rattle.std.specs.Option.{option_copied};
 ghost use Rattle.std.specs.Str.{bytes_eq};
 ghost use Rattle.kg_row_types.specs.declared.entity.Entity.TheVariants as of_row;
+ghost use Rattle.kg_rows.specs.RowRefs.{row_at};
 ghost use Rattle.kg_rows.specs.Selections.{row_with_id, row_with_word, key_cred_of_word, selected};
 
+use crate::row_ref::RowRef;
 use crate::select::Select;
 use kg_entities::{
-    AclRow, BasicCred, Consumer, Entity, Id, KeyCred, Kind, PluginRow, Route, Rows, Service,
+    AclRow, BasicCred, Consumer, Id, KeyCred, Kind, PluginRow, Route, Rows, Service,
 };
-use kg_text::{NoMemory, Text, TryClone};
-use std::alloc::Global;
+use kg_text::Text;
 
 /// The row of a kind that is meant, among all of them.
-pub fn selected(
-    alloc: Global,
-    rows: &Rows,
-    kind: Kind,
-    select: &Select,
-) -> Result<Option<Entity>, NoMemory>
-    ensures { IfOk result (λ row. row ≡ selected kind select.now rows.now) }
+pub fn selected<'r>(rows: &'r Rows, kind: Kind, select: &Select) -> Option<RowRef<'r>>
+    ensures { option_map row_at result ≡ selected kind select.now rows.now }
 {
     match select {
-        Select::Id(id) => row_with_id(alloc, rows, kind, *id),
-        Select::Word(text) => row_with_word(alloc, rows, kind, text),
+        Select::Id(id) => row_with_id(rows, kind, *id),
+        Select::Word(text) => row_with_word(rows, kind, text),
     }
 }
 
-fn row_with_id(alloc: Global, rows: &Rows, kind: Kind, id: Id) -> Result<Option<Entity>, NoMemory>
-    ensures { IfOk result (λ row. row ≡ row_with_id kind id rows.now) }
+/// The row of this kind and id.
+pub fn row_with_id(rows: &Rows, kind: Kind, id: Id) -> Option<RowRef<'_>>
+    ensures { option_map row_at result ≡ row_with_id kind id rows.now }
 {
     match kind {
-        Kind::Service => service_row(alloc, rows.services().get(id)),
-        Kind::Route => route_row(alloc, rows.routes().get(id)),
-        Kind::Consumer => consumer_row(alloc, rows.consumers().get(id)),
-        Kind::KeyCred => key_cred_row(alloc, rows.key_creds().get(id)),
-        Kind::BasicCred => basic_cred_row(alloc, rows.basic_creds().get(id)),
-        Kind::Acl => acl_row(alloc, rows.acls().get(id)),
-        Kind::Plugin => plugin_row(alloc, rows.plugins().get(id)),
+        Kind::Service => service_row(service_with_id(rows, id)),
+        Kind::Route => route_row(route_with_id(rows, id)),
+        Kind::Consumer => consumer_row(consumer_with_id(rows, id)),
+        Kind::KeyCred => key_cred_row(key_cred_with_id(rows, id)),
+        Kind::BasicCred => basic_cred_row(basic_cred_with_id(rows, id)),
+        Kind::Acl => acl_row(acl_with_id(rows, id)),
+        Kind::Plugin => plugin_row(plugin_with_id(rows, id)),
     }
 }
 
-fn row_with_word(
-    alloc: Global,
-    rows: &Rows,
-    kind: Kind,
-    text: &Text,
-) -> Result<Option<Entity>, NoMemory>
-    ensures { IfOk result (λ row. row ≡ row_with_word kind text.now rows.now) }
+fn row_with_word<'r>(rows: &'r Rows, kind: Kind, text: &Text) -> Option<RowRef<'r>>
+    ensures { option_map row_at result ≡ row_with_word kind text.now rows.now }
 {
     match kind {
-        Kind::Service => service_row(alloc, rows.service_named(text)),
-        Kind::Route => route_row(alloc, rows.route_named(text)),
-        Kind::Consumer => consumer_row(alloc, rows.consumer_with_username(text)),
-        Kind::KeyCred => key_cred_row(alloc, key_cred_of_word(rows, text)),
-        Kind::BasicCred => basic_cred_row(alloc, rows.cred_with_username(text)),
-        Kind::Acl => acl_row(alloc, acl_of_group(rows, text)),
-        Kind::Plugin => Ok(None),
+        Kind::Service => service_row(rows.service_named(text)),
+        Kind::Route => route_row(rows.route_named(text)),
+        Kind::Consumer => consumer_row(rows.consumer_with_username(text)),
+        Kind::KeyCred => key_cred_row(key_cred_of_word(rows, text)),
+        Kind::BasicCred => basic_cred_row(rows.cred_with_username(text)),
+        Kind::Acl => acl_row(acl_of_group(rows, text)),
+        Kind::Plugin => None,
     }
 }
 
@@ -79,78 +71,116 @@ fn key_cred_with_id(rows: &Rows, id: Id) -> Option<&KeyCred>
     rows.key_creds().get(id)
 }
 
+/// The service with this id.
+pub fn service_with_id(rows: &Rows, id: Id) -> Option<&Service>
+    ensures { option_copied result ≡ find (λ row. row.id == id) rows.now.services }
+{
+    rows.services().get(id)
+}
+
+fn route_with_id(rows: &Rows, id: Id) -> Option<&Route>
+    ensures { option_copied result ≡ find (λ row. row.id == id) rows.now.routes }
+{
+    rows.routes().get(id)
+}
+
+/// The consumer with this id.
+pub fn consumer_with_id(rows: &Rows, id: Id) -> Option<&Consumer>
+    ensures { option_copied result ≡ find (λ row. row.id == id) rows.now.consumers }
+{
+    rows.consumers().get(id)
+}
+
+fn basic_cred_with_id(rows: &Rows, id: Id) -> Option<&BasicCred>
+    ensures { option_copied result ≡ find (λ row. row.id == id) rows.now.basic_creds }
+{
+    rows.basic_creds().get(id)
+}
+
+fn acl_with_id(rows: &Rows, id: Id) -> Option<&AclRow>
+    ensures { option_copied result ≡ find (λ row. row.id == id) rows.now.acls }
+{
+    rows.acls().get(id)
+}
+
+fn plugin_with_id(rows: &Rows, id: Id) -> Option<&PluginRow>
+    ensures { option_copied result ≡ find (λ row. row.id == id) rows.now.plugins }
+{
+    rows.plugins().get(id)
+}
+
 fn acl_of_group<'r>(rows: &'r Rows, text: &Text) -> Option<&'r AclRow>
     ensures { option_copied result ≡ find (λ row. bytes_eq row.group text.now) rows.now.acls }
 {
     rows.acls().as_slice().iter().find(|row| row.group == *text)
 }
 
-/// A copy of the row that was found.
-pub fn service_row(alloc: Global, found: Option<&Service>) -> Result<Option<Entity>, NoMemory>
-    ensures { IfOk result (λ row. row ≡ option_map of_row.Service (option_copied found.entry)) }
+/// The row that was found.
+pub fn service_row(found: Option<&Service>) -> Option<RowRef<'_>>
+    ensures { option_map row_at result ≡ option_map of_row.Service (option_copied found.entry) }
 {
     match found {
-        Some(row) => Ok(Some(Entity::Service(row.try_clone(alloc)?))),
-        None => Ok(None),
+        Some(row) => Some(RowRef::Service(row)),
+        None => None,
     }
 }
 
-/// A copy of the row that was found.
-pub fn route_row(alloc: Global, found: Option<&Route>) -> Result<Option<Entity>, NoMemory>
-    ensures { IfOk result (λ row. row ≡ option_map of_row.Route (option_copied found.entry)) }
+/// The row that was found.
+pub fn route_row(found: Option<&Route>) -> Option<RowRef<'_>>
+    ensures { option_map row_at result ≡ option_map of_row.Route (option_copied found.entry) }
 {
     match found {
-        Some(row) => Ok(Some(Entity::Route(row.try_clone(alloc)?))),
-        None => Ok(None),
+        Some(row) => Some(RowRef::Route(row)),
+        None => None,
     }
 }
 
-/// A copy of the row that was found.
-pub fn consumer_row(alloc: Global, found: Option<&Consumer>) -> Result<Option<Entity>, NoMemory>
-    ensures { IfOk result (λ row. row ≡ option_map of_row.Consumer (option_copied found.entry)) }
+/// The row that was found.
+pub fn consumer_row(found: Option<&Consumer>) -> Option<RowRef<'_>>
+    ensures { option_map row_at result ≡ option_map of_row.Consumer (option_copied found.entry) }
 {
     match found {
-        Some(row) => Ok(Some(Entity::Consumer(row.try_clone(alloc)?))),
-        None => Ok(None),
+        Some(row) => Some(RowRef::Consumer(row)),
+        None => None,
     }
 }
 
-/// A copy of the row that was found.
-pub fn key_cred_row(alloc: Global, found: Option<&KeyCred>) -> Result<Option<Entity>, NoMemory>
-    ensures { IfOk result (λ row. row ≡ option_map of_row.KeyCred (option_copied found.entry)) }
+/// The row that was found.
+pub fn key_cred_row(found: Option<&KeyCred>) -> Option<RowRef<'_>>
+    ensures { option_map row_at result ≡ option_map of_row.KeyCred (option_copied found.entry) }
 {
     match found {
-        Some(row) => Ok(Some(Entity::KeyCred(row.try_clone(alloc)?))),
-        None => Ok(None),
+        Some(row) => Some(RowRef::KeyCred(row)),
+        None => None,
     }
 }
 
-/// A copy of the row that was found.
-pub fn basic_cred_row(alloc: Global, found: Option<&BasicCred>) -> Result<Option<Entity>, NoMemory>
-    ensures { IfOk result (λ row. row ≡ option_map of_row.BasicCred (option_copied found.entry)) }
+/// The row that was found.
+pub fn basic_cred_row(found: Option<&BasicCred>) -> Option<RowRef<'_>>
+    ensures { option_map row_at result ≡ option_map of_row.BasicCred (option_copied found.entry) }
 {
     match found {
-        Some(row) => Ok(Some(Entity::BasicCred(row.try_clone(alloc)?))),
-        None => Ok(None),
+        Some(row) => Some(RowRef::BasicCred(row)),
+        None => None,
     }
 }
 
-/// A copy of the row that was found.
-pub fn acl_row(alloc: Global, found: Option<&AclRow>) -> Result<Option<Entity>, NoMemory>
-    ensures { IfOk result (λ row. row ≡ option_map of_row.Acl (option_copied found.entry)) }
+/// The row that was found.
+pub fn acl_row(found: Option<&AclRow>) -> Option<RowRef<'_>>
+    ensures { option_map row_at result ≡ option_map of_row.Acl (option_copied found.entry) }
 {
     match found {
-        Some(row) => Ok(Some(Entity::Acl(row.try_clone(alloc)?))),
-        None => Ok(None),
+        Some(row) => Some(RowRef::Acl(row)),
+        None => None,
     }
 }
 
-/// A copy of the row that was found.
-pub fn plugin_row(alloc: Global, found: Option<&PluginRow>) -> Result<Option<Entity>, NoMemory>
-    ensures { IfOk result (λ row. row ≡ option_map of_row.Plugin (option_copied found.entry)) }
+/// The row that was found.
+pub fn plugin_row(found: Option<&PluginRow>) -> Option<RowRef<'_>>
+    ensures { option_map row_at result ≡ option_map of_row.Plugin (option_copied found.entry) }
 {
     match found {
-        Some(row) => Ok(Some(Entity::Plugin(row.try_clone(alloc)?))),
-        None => Ok(None),
+        Some(row) => Some(RowRef::Plugin(row)),
+        None => None,
     }
 }

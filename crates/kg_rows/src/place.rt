@@ -1,17 +1,17 @@
 //! Where rows are asked for: among all, or under another row.
 
-ghost use Rattle.std.specs.Prelude.{◌≡◌, IfOk, option_map};
-ghost use Rattle.kg_row_types.specs.Entities.{id_of_row};
-ghost use Rattle.kg_rows.specs.Selections.{parent_id, place_of, rows_in, selected};
+ghost use Rattle.std.specs.Prelude.{◌≡◌, option_map};
 ghost use Rattle.kg_rows.specs.References.{link_of, link_to, no_links};
+ghost use Rattle.kg_rows.specs.RowRefs.{row_at};
+ghost use Rattle.kg_rows.specs.Selections.{parent_id, place_of, row_with_id, rows_in, selected};
 
 use crate::find::selected;
+use crate::row_ref::RowRef;
 use crate::select::{Parent, Select};
 use crate::under::selected_under;
-use kg_entities::{Entity, Id, Kind, Rows};
+use crate::{find, under};
+use kg_entities::{Id, Kind, Rows};
 use kg_schema::Links;
-use kg_text::NoMemory;
-use std::alloc::Global;
 
 /// Where rows are asked for.
 #[derive(Clone, Copy, Debug, PartialEq, Eq)]
@@ -22,47 +22,55 @@ pub enum Place {
 }
 
 /// Where a row is asked for; none where its parent is missing.
-pub fn place_of(
-    alloc: Global,
-    rows: &Rows,
-    parent: &Option<Parent>,
-) -> Result<Option<Place>, NoMemory>
-    ensures { IfOk result (λ place. place ≡ place_of parent.now rows.now) }
+pub fn place_of(rows: &Rows, parent: &Option<Parent>) -> Option<Place>
+    ensures { result ≡ place_of parent.now rows.now }
 {
     match parent {
-        None => Ok(Some(Place::Anywhere)),
-        Some(parent) => match parent_id(alloc, rows, parent)? {
-            Some(id) => Ok(Some(Place::Under {
+        None => Some(Place::Anywhere),
+        Some(parent) => match parent_id(rows, parent) {
+            Some(id) => Some(Place::Under {
                 kind: parent.kind,
                 id,
-            })),
-            None => Ok(None),
+            }),
+            None => None,
         },
     }
 }
 
-fn parent_id(alloc: Global, rows: &Rows, parent: &Parent) -> Result<Option<Id>, NoMemory>
-    ensures { IfOk result (λ id. id ≡ parent_id parent.now rows.now) }
+fn parent_id(rows: &Rows, parent: &Parent) -> Option<Id>
+    ensures { result ≡ parent_id parent.now rows.now }
 {
-    match selected(alloc, rows, parent.kind, &parent.select)? {
-        Some(row) => Ok(Some(row.id())),
-        None => Ok(None),
+    match selected(rows, parent.kind, &parent.select) {
+        Some(row) => Some(row.id()),
+        None => None,
     }
 }
 
 /// The row of a kind that is meant, among those in a place.
-pub fn selected_in(
-    alloc: Global,
-    rows: &Rows,
+pub fn selected_in<'r>(
+    rows: &'r Rows,
     kind: Kind,
     place: &Place,
     select: &Select,
-) -> Result<Option<Entity>, NoMemory>
-    ensures { IfOk result (λ row. row ≡ selected kind select.now (rows_in place.now rows.now)) }
+) -> Option<RowRef<'r>>
+    ensures { option_map row_at result ≡ selected kind select.now (rows_in place.now rows.now) }
 {
     match place {
-        Place::Anywhere => selected(alloc, rows, kind, select),
-        Place::Under { kind: upper, id } => selected_under(alloc, rows, kind, *upper, *id, select),
+        Place::Anywhere => selected(rows, kind, select),
+        Place::Under { kind: upper, id } => selected_under(rows, kind, *upper, *id, select),
+    }
+}
+
+/// The row of this kind and id, where it stands in a place.
+pub fn row_in<'r>(rows: &'r Rows, kind: Kind, place: &Place, id: Id) -> Option<RowRef<'r>>
+    ensures { option_map row_at result ≡ row_with_id kind id (rows_in place.now rows.now) }
+{
+    match place {
+        Place::Anywhere => find::row_with_id(rows, kind, id),
+        Place::Under {
+            kind: upper,
+            id: above,
+        } => { under::row_with_id(rows, kind, *upper, *above, id) }
     }
 }
 

@@ -1,14 +1,23 @@
 //! The row that a body makes, and why it is refused.
 
-ghost use Rattle.std.specs.Prelude.{◌≡◌, None, Some, Ok, IfOk, IfErr, OnOk};
+ghost use Rattle.std.specs.Prelude.{◌≡◌, None, Some, Ok, IfOk, IfErr, OnOk, option_map};
 ghost use Rattle.serde_json.specs.View.{view};
 ghost use Rattle.kg_rows.specs.Decision.{IsRefusedBy, Decides, Refuses, conflict, inserted, missing, proposed, replaced, taken_by_other, violation};
+ghost use Rattle.kg_rows.specs.RowRefs.{row_at};
 ghost use Rattle.kg_row_making.specs.Bases.{base_of};
+ghost use Rattle.kg_row_types.specs.Entities.{id_of_row};
 ghost use Rattle.kg_schema.specs.Between.{faults_between};
 ghost use Rattle.kg_schema.specs.Finished.{row_over};
+ghost use Rattle.kg_schema.specs.ValidBases.{IsValidBase};
+ghost use Rattle.kg_row_changes.specs.ValidCommands.{IsValidCommand};
+ghost use Rattle.kg_row_types.specs.ValidRows.{IsValidRow};
 
+use crate::base::own_id;
 use crate::draft::{DecideError, Refusal};
-use crate::meaning::{Meanings, links_in, links_of, lost_field, meant_in, strange_field};
+use crate::row_ref::RowRef;
+use crate::target::{
+    Targets, contradicted_field, dangling_field, fixed_links, links_in, links_of, targets_in,
+};
 use kg_entities::{Entity, Id, Rows};
 use kg_row_changes::claims::claimed;
 use kg_row_values::command::Command;
@@ -26,16 +35,22 @@ pub fn inserted(
     above: &Links,
     limit: u32,
 ) -> Result<Command, DecideError>
-    ensures { Decides result (inserted rows.now form.now.kind (view form.now.body) (base_of base.now) above.now limit) }
+    ensures decided { Decides result (inserted rows.now form.now.kind (view form.now.body) (base_of base.now) above.now limit) }
+    ensures valid { IsValidBase form.now.kind (base_of base.now) → IfOk result IsValidCommand }
 {
-    let row = proposed(alloc, rows, form, base, above, None)?;
-    if rows.count(form.kind()) < limit as usize {
-        return Ok(Command::Insert(row));
+    match proposed(alloc, rows, form, base, above, None) {
+        Ok(row) => {
+            if rows.count(form.kind()) < limit as usize {
+                return Ok(Command::Insert(row));
+            }
+            drop(row);
+            Err(DecideError::Refused(Refusal::Full))
+        }
+        Err(e) => Err(e),
     }
-    Err(DecideError::Refused(Refusal::Full))
 }
 
-/// A row in the place of the one of its id.
+/// A row in the place of a present one.
 #[tactic(auto, unfolding(crate::specs::Decision::replaced))]
 pub fn replaced(
     alloc: Global,
@@ -43,12 +58,15 @@ pub fn replaced(
     form: &Form,
     base: &Base<'_>,
     above: &Links,
-    id: Id,
+    present: RowRef<'_>,
 ) -> Result<Command, DecideError>
-    ensures { Decides result (replaced rows.now form.now.kind (view form.now.body) (base_of base.now) above.now id) }
+    ensures decided { Decides result (replaced rows.now form.now.kind (view form.now.body) (base_of base.now) above.now (row_at present.entry)) }
+    ensures valid { IsValidBase form.now.kind (base_of base.now) → IfOk result IsValidCommand }
 {
-    let row = proposed(alloc, rows, form, base, above, Some(id))?;
-    Ok(Command::Update(row))
+    match proposed(alloc, rows, form, base, above, Some(present)) {
+        Ok(row) => Ok(Command::Update(row)),
+        Err(e) => Err(e),
+    }
 }
 
 // The row that a body makes over a base, unless it is refused.
@@ -59,18 +77,36 @@ fn proposed(
     form: &Form,
     base: &Base<'_>,
     above: &Links,
-    replaced: Option<Id>,
+    present: Option<RowRef<'_>>,
 ) -> Result<Entity, DecideError>
-    ensures ok { IfOk result (λ row. proposed rows.now form.now.kind (view form.now.body) (base_of base.now) above.now replaced ≡ Ok row) }
-    ensures refused { IfErr result (λ e. Refuses e (proposed rows.now form.now.kind (view form.now.body) (base_of base.now) above.now replaced)) }
+    ensures ok { IfOk result (λ row. proposed rows.now form.now.kind (view form.now.body) (base_of base.now) above.now (option_map row_at present.entry) ≡ Ok row) }
+    ensures refused { IfErr result (λ e. Refuses e (proposed rows.now form.now.kind (view form.now.body) (base_of base.now) above.now (option_map row_at present.entry))) }
+    ensures valid { IsValidBase form.now.kind (base_of base.now) → IfOk result IsValidRow }
 {
-    let meant = meant_in(alloc, rows, form)?;
-    let _service = meant.service;
-    let links = links_in(above, &meant);
-    let strange = strange_field(above, &meant);
-    let row = finished(alloc, form, base, &links, strange)?;
-    fit(alloc, rows, above, &meant, &row, replaced)?;
-    Ok(row)
+    let targets = targets_in(alloc, rows, form)?;
+    let _service = targets.service;
+    let links = links_in(own_id(base), above, &targets);
+    let field = contradicted_field(&fixed_links(above, present), &targets);
+    let replaced = id_of(present);
+    match finished(alloc, form, base, &links, field) {
+        Ok(row) => match fit(alloc, rows, above, &targets, &row, replaced) {
+            Ok(()) => Ok(row),
+            Err(e) => {
+                drop(row);
+                Err(e)
+            }
+        },
+        Err(e) => Err(e),
+    }
+}
+
+fn id_of(present: Option<RowRef<'_>>) -> Option<Id>
+    ensures { result ≡ option_map id_of_row (option_map row_at present.entry) }
+{
+    match present {
+        Some(row) => Some(row.id()),
+        None => None,
+    }
 }
 
 // Refuses a row that names what isn't there, or has what another row has.
@@ -78,15 +114,15 @@ fn fit(
     alloc: Global,
     rows: &Rows,
     above: &Links,
-    meant: &Meanings,
+    targets: &Targets,
     row: &Entity,
     replaced: Option<Id>,
 ) -> Result<(), DecideError>
-    ensures ok { OnOk result (conflict rows.now above.now meant.now row.now replaced ≡ None) }
-    ensures refused { IfErr result (λ e. IsRefusedBy e (conflict rows.now above.now meant.now row.now replaced)) }
+    ensures ok { OnOk result (conflict rows.now above.now targets.now row.now replaced ≡ None) }
+    ensures refused { IfErr result (λ e. IsRefusedBy e (conflict rows.now above.now targets.now row.now replaced)) }
 {
     let named = links_of(row);
-    if let Some(field) = lost_field(rows, above, meant, &named) {
+    if let Some(field) = dangling_field(rows, above, targets, &named) {
         return Err(DecideError::Refused(missing(alloc, field)?));
     }
     if let Some((field, other)) = claimed(rows, row, &replaced) {
@@ -102,13 +138,14 @@ fn finished(
     form: &Form,
     base: &Base<'_>,
     links: &Links,
-    strange: Option<ParentField>,
+    field: Option<ParentField>,
 ) -> Result<Entity, DecideError>
     ensures row { IfOk result (λ row. row ≡ row_over form.now.kind (view form.now.body) (base_of base.now) links.now) }
-    ensures valid { OnOk result (violation (faults_between form.now.kind (view form.now.body) (base_of base.now) links.now strange) ≡ None) }
-    ensures refused { IfErr result (λ e. IsRefusedBy e (violation (faults_between form.now.kind (view form.now.body) (base_of base.now) links.now strange))) }
+    ensures valid { OnOk result (violation (faults_between form.now.kind (view form.now.body) (base_of base.now) links.now field) ≡ None) }
+    ensures refused { IfErr result (λ e. IsRefusedBy e (violation (faults_between form.now.kind (view form.now.body) (base_of base.now) links.now field))) }
+    ensures valid_row { IsValidBase form.now.kind (base_of base.now) → IfOk result IsValidRow }
 {
-    match finish_under(alloc, form, base, links, strange) {
+    match finish_under(alloc, form, base, links, field) {
         Ok(row) => Ok(row),
         Err(FormError::Violation(broken)) => {
             Err(DecideError::Refused(Refusal::Violation(broken)))

@@ -1,26 +1,26 @@
 //! Rows that stand under another row.
 
-ghost use Rattle.std.specs.Prelude.{◌≡◌, ℕ, ◌==◌, ◌&&◌, Bool, false, List as Sequence, IfOk, filter, find, option_map};
+ghost use Rattle.std.specs.Prelude.{◌≡◌, ℕ, ◌==◌, ◌&&◌, Bool, false, List as Sequence, filter, find, option_map};
 ghost use Rattle.std.specs.Option.{option_copied, option_to_list};
 ghost use Rattle.std.specs.Str.{bytes_eq};
 ghost use Rattle.kg_row_types.specs.Lookups.{is_text};
 ghost use Rattle.kg_row_types.specs.RowChanges.{names_row};
 ghost use Rattle.kg_row_types.specs.declared.entity.Entity.TheVariants as of_row;
 ghost use Rattle.kg_row_types.specs.declared.entity.Kind.{Kind as Upper};
+ghost use Rattle.kg_rows.specs.RowRefs.{row_at};
 ghost use Rattle.kg_rows.specs.Selections.{is_owned_under, is_route_under, key_cred_of_word, row_with_id, row_with_word, rows_under, selected};
 
 use crate::find::{
-    acl_row, basic_cred_row, consumer_row, key_cred_row, plugin_row, route_row, service_row,
+    acl_row, basic_cred_row, consumer_row, consumer_with_id, key_cred_row, plugin_row, route_row,
+    service_row, service_with_id,
 };
+use crate::row_ref::RowRef;
 use crate::select::Select;
-use kg_entities::{
-    AclRow, BasicCred, Entity, Id, KeyCred, Kind, PluginRow, Route, Row, RowTable, Rows,
-};
-use kg_text::{NoMemory, Text};
-use std::alloc::Global;
+use kg_entities::{AclRow, BasicCred, Id, KeyCred, Kind, PluginRow, Route, Row, RowTable, Rows};
+use kg_text::Text;
 
 /// Rows of a kind of which some stand under other rows.
-trait Below: Row {
+pub trait Below: Row {
     ghost below: { Upper → ℕ → Self → Bool };
 
     ghost worded: { Sequence ℕ → Self → Bool };
@@ -131,61 +131,53 @@ fn is_owned_under(upper: Kind, above: Id, consumer: Id) -> bool
 }
 
 /// The row of a kind that is meant, among those that stand under a row.
-pub fn selected_under(
-    alloc: Global,
-    rows: &Rows,
+pub fn selected_under<'r>(
+    rows: &'r Rows,
     kind: Kind,
     upper: Kind,
     above: Id,
     select: &Select,
-) -> Result<Option<Entity>, NoMemory>
-    ensures { IfOk result (λ row. row ≡ selected kind select.now (rows_under upper above rows.now)) }
+) -> Option<RowRef<'r>>
+    ensures { option_map row_at result ≡ selected kind select.now (rows_under upper above rows.now) }
 {
     match select {
-        Select::Id(id) => row_with_id(alloc, rows, kind, upper, above, *id),
-        Select::Word(text) => row_with_word(alloc, rows, kind, upper, above, text),
+        Select::Id(id) => row_with_id(rows, kind, upper, above, *id),
+        Select::Word(text) => row_with_word(rows, kind, upper, above, text),
     }
 }
 
-fn row_with_id(
-    alloc: Global,
-    rows: &Rows,
-    kind: Kind,
-    upper: Kind,
-    above: Id,
-    id: Id,
-) -> Result<Option<Entity>, NoMemory>
-    ensures { IfOk result (λ row. row ≡ row_with_id kind id (rows_under upper above rows.now)) }
+/// The row of this kind and id, where it stands under a row.
+pub fn row_with_id(rows: &Rows, kind: Kind, upper: Kind, above: Id, id: Id) -> Option<RowRef<'_>>
+    ensures { option_map row_at result ≡ row_with_id kind id (rows_under upper above rows.now) }
 {
     match kind {
-        Kind::Service => service_row(alloc, rows.services().get(id)),
-        Kind::Route => route_row(alloc, with_id(rows.routes(), upper, above, id)),
-        Kind::Consumer => consumer_row(alloc, rows.consumers().get(id)),
-        Kind::KeyCred => { key_cred_row(alloc, with_id(rows.key_creds(), upper, above, id)) }
-        Kind::BasicCred => { basic_cred_row(alloc, with_id(rows.basic_creds(), upper, above, id)) }
-        Kind::Acl => acl_row(alloc, with_id(rows.acls(), upper, above, id)),
-        Kind::Plugin => plugin_row(alloc, with_id(rows.plugins(), upper, above, id)),
+        Kind::Service => service_row(service_with_id(rows, id)),
+        Kind::Route => route_row(route_with_id(rows, upper, above, id)),
+        Kind::Consumer => consumer_row(consumer_with_id(rows, id)),
+        Kind::KeyCred => key_cred_row(key_cred_with_id(rows, upper, above, id)),
+        Kind::BasicCred => basic_cred_row(basic_cred_with_id(rows, upper, above, id)),
+        Kind::Acl => acl_row(acl_with_id(rows, upper, above, id)),
+        Kind::Plugin => plugin_row(plugin_with_id(rows, upper, above, id)),
     }
 }
 
-fn row_with_word(
-    alloc: Global,
-    rows: &Rows,
+fn row_with_word<'r>(
+    rows: &'r Rows,
     kind: Kind,
     upper: Kind,
     above: Id,
     text: &Text,
-) -> Result<Option<Entity>, NoMemory>
-    ensures { IfOk result (λ row. row ≡ row_with_word kind text.now (rows_under upper above rows.now)) }
+) -> Option<RowRef<'r>>
+    ensures { option_map row_at result ≡ row_with_word kind text.now (rows_under upper above rows.now) }
 {
     match kind {
-        Kind::Service => service_row(alloc, rows.service_named(text)),
-        Kind::Route => route_row(alloc, named_route(rows, upper, above, text)),
-        Kind::Consumer => consumer_row(alloc, rows.consumer_with_username(text)),
-        Kind::KeyCred => key_cred_row(alloc, key_cred_of_word(rows, upper, above, text)),
-        Kind::BasicCred => basic_cred_row(alloc, cred_with_username(rows, upper, above, text)),
-        Kind::Acl => acl_row(alloc, with_word(rows.acls().as_slice(), upper, above, text)),
-        Kind::Plugin => Ok(None),
+        Kind::Service => service_row(rows.service_named(text)),
+        Kind::Route => route_row(named_route(rows, upper, above, text)),
+        Kind::Consumer => consumer_row(rows.consumer_with_username(text)),
+        Kind::KeyCred => key_cred_row(key_cred_of_word(rows, upper, above, text)),
+        Kind::BasicCred => basic_cred_row(cred_with_username(rows, upper, above, text)),
+        Kind::Acl => acl_row(with_word(rows.acls().as_slice(), upper, above, text)),
+        Kind::Plugin => None,
     }
 }
 
@@ -254,6 +246,30 @@ fn key_cred_with_id(rows: &Rows, upper: Kind, above: Id, id: Id) -> Option<&KeyC
     ensures { option_copied result ≡ find (λ row. row.id == id) (filter (λ row. is_owned_under upper above row.consumer) rows.now.key_creds) }
 {
     with_id(rows.key_creds(), upper, above, id)
+}
+
+fn route_with_id(rows: &Rows, upper: Kind, above: Id, id: Id) -> Option<&Route>
+    ensures { option_copied result ≡ find (λ row. row.id == id) (filter (is_route_under upper above) rows.now.routes) }
+{
+    with_id(rows.routes(), upper, above, id)
+}
+
+fn basic_cred_with_id(rows: &Rows, upper: Kind, above: Id, id: Id) -> Option<&BasicCred>
+    ensures { option_copied result ≡ find (λ row. row.id == id) (filter (λ row. is_owned_under upper above row.consumer) rows.now.basic_creds) }
+{
+    with_id(rows.basic_creds(), upper, above, id)
+}
+
+fn acl_with_id(rows: &Rows, upper: Kind, above: Id, id: Id) -> Option<&AclRow>
+    ensures { option_copied result ≡ find (λ row. row.id == id) (filter (λ row. is_owned_under upper above row.consumer) rows.now.acls) }
+{
+    with_id(rows.acls(), upper, above, id)
+}
+
+fn plugin_with_id(rows: &Rows, upper: Kind, above: Id, id: Id) -> Option<&PluginRow>
+    ensures { option_copied result ≡ find (λ row. row.id == id) (filter (names_row upper above) rows.now.plugins) }
+{
+    with_id(rows.plugins(), upper, above, id)
 }
 
 // The row with this id, where it stands under a row.
