@@ -3,7 +3,7 @@ use Rattle.std.proofs.Common.{◌≡◌, ℕ, ◌≤◌, ◌⊎◌, inl, inr, tr
 use Rattle.std.specs.Prelude.{nat_lt}
 use Rattle.std.proofs.lemmas.Bool.{le-ltb, lt-ltb}
 use Rattle.kg_declare.specs.Histories.{AreInsertions}
-use Rattle.kg_declare.specs.Outcome.{Refused, next, outcome}
+use Rattle.kg_declare.specs.Outcome.{next, outcome}
 use Rattle.kg_declare.specs.Steps.{Answers, progress_after}
 use Rattle.kg_declare.specs.declared.error.DeclareError.{DeclareError}
 use Rattle.kg_declare.specs.declared.error.DeclareError.TheVariants as error

@@ -2,26 +2,24 @@
 use Rattle.std.proofs.Common.{◌≡◌, ℕ, ◌+◌, ◌≤◌, ◌<◌, ◌==◌, ◌⊎◌, inl, inr, List, [], ◌∷◌, ◌++◌, Option, Some, None, Result, Ok, Err, length, refl, sym, ap, ◌∙◌, subst, arith}
 use Rattle.std.proofs.lemmas.List.{append_assoc, append-nil, length-append}
 use Rattle.std.proofs.lemmas.Grind.{flat_map-append}
-use Rattle.std.specs.List.{flat_map, AllByRecursion}
+use Rattle.std.specs.List.{flat_map}
 use Rattle.kg_outside.specs.Moves.{with_front, with_end}
 use Rattle.kg_outside.proofs.Observed.{with_end-append, with_end-nil}
 use Rattle.kg_router.specs.RouterRows.{RouterRows}
 use Rattle.kg_wire.specs.Messages.{Message, IsReading, IsRequest, print_message, request_of}
-use Rattle.kg_wire.proofs.MessageLemmas.{reading_front, reading_most, reading_same}
-use Rattle.kg_wire.specs.Refusals.{IsBad}
-use Rattle.kg_wire.proofs.RefusalLemmas.{bad_begins_none}
+use Rattle.kg_wire.proofs.MessageLemmas.{reading_front}
 use Rattle.kg_declare.specs.Outcome.{Progress, Refused as RefusedLine}
 use Rattle.kg_declare.specs.Steps.{progress_after}
 use Rattle.kg_row_values.specs.Rows.{rows_after}
 use Rattle.kg_row_values.specs.declared.command.Command.{Command}
 use Rattle.kg_lone.specs.Answered.{AnswersFront, EndsWith}
 use Rattle.kg_lone.specs.DryRun.{IsCutShort, IsWhole}
-use Rattle.kg_lone.specs.DryText.{BeginsReply, EndsSo, GoOn, IsAnsweredRun, IsCutText, IsDryText, StopsAtFirst, StopsBehind, StopsIn, WritesFront, WritesText, last_text, local_address, most_requests, most_rows, status_of, texts}
-use Rattle.kg_lone.specs.FirstCommands.{AnswersFirst, BeginsRefusal, Decides, FirstLineCall, GivesCommands, IsFirstStatus, StopsFirst, WritesRefusal, first_outcome, refusal_line}
+use Rattle.kg_lone.specs.DryText.{EndsSo, GoOn, IsCutText, IsDryText, StopsAtFirst, StopsBehind, StopsIn, WritesFront, WritesText, last_text, local_address, most_requests, most_rows, status_of, texts}
+use Rattle.kg_lone.specs.FirstCommands.{AnswersFirst, BeginsRefusal, Decides, FirstLineCall, IsFirstStatus, StopsFirst, WritesRefusal, first_outcome, refusal_line}
 use Rattle.kg_lone.specs.FirstLine.{line_of, after_line}
 use Rattle.kg_lone.specs.Fronts.{IsFront}
 use Rattle.kg_lone.specs.InsertedRows.{router_rows}
-use Rattle.kg_lone.specs.Plain.{bad_request_text, reply_to}
+use Rattle.kg_lone.specs.Plain.{reply_to}
 use Rattle.kg_lone.specs.declared.dry.End.{End}
 use Rattle.kg_lone.specs.declared.dry.End.TheVariants.{Bad}
 use Rattle.kg_lone.proofs.AnsweredLemmas.{each-push, texts-push}
@@ -389,9 +387,9 @@ is_three status (inr (inr (inr six))) (inr (inr seven)) = absurd (omega arith)
 refuses : (call : FirstLineCall) (status : ℕ) → ((status ≡ 3) × WritesRefusal call) ⊎ StopsFirst call status → IsWhole status
     → (status ≡ 3) × WritesRefusal call
 refuses call status (inl is) whole = is
-refuses call status (inr (inl (four, is))) (inl zero) = absurd (omega arith)
-refuses call status (inr (inl (four, is))) (inr (inl three)) = absurd (omega arith)
-refuses call status (inr (inl (four, is))) (inr (inr seven)) = absurd (omega arith)
+refuses call status (inr (inl (four, none, is))) (inl zero) = absurd (omega arith)
+refuses call status (inr (inl (four, none, is))) (inr (inl three)) = absurd (omega arith)
+refuses call status (inr (inl (four, none, is))) (inr (inr seven)) = absurd (omega arith)
 refuses call status (inr (inr (inl (six, is)))) (inl zero) = absurd (omega arith)
 refuses call status (inr (inr (inl (six, is)))) (inr (inl three)) = absurd (omega arith)
 refuses call status (inr (inr (inl (six, is)))) (inr (inr seven)) = absurd (omega arith)

@@ -33,7 +33,7 @@ const MOST_ROWS: u32 = 100_000;
 const LOCAL_ADDRESS: [u8; 4] = [127, 0, 0, 1];
 
 /// How a run ended that was not cut short.
-#[derive(Clone, Copy, Debug)]
+#[derive(Clone, Copy)]
 pub enum End {
     /// The stream ended between two messages.
     Closed,
@@ -48,7 +48,7 @@ pub enum End {
 }
 
 /// Why a run was cut short.
-#[derive(Clone, Copy, Debug)]
+#[derive(Clone, Copy)]
 pub enum Stop {
     ReadFault,
     WriteFault,

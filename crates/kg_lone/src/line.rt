@@ -10,7 +10,7 @@ use kg_outside::{Failed, Source};
 use std::alloc::{AllocFailed, Global};
 
 /// The first line of a stream.
-#[derive(Debug, Drop)]
+#[derive(Drop)]
 pub enum FirstLine {
     /// The line without its line feed.
     Whole(Vec<u8>),
@@ -19,7 +19,7 @@ pub enum FirstLine {
 }
 
 /// Why the first line could not be had.
-#[derive(Clone, Copy, Debug, PartialEq, Eq, Hash)]
+#[derive(Clone, Copy)]
 pub enum LineError {
     /// The source failed.
     ReadFault,

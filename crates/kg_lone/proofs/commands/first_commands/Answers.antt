@@ -1,5 +1,5 @@
 use Rattle.std.proofs.Common.{ap}
-use Rattle.kg_lone.proofs.CommandLemmas.{gives_commands, tells_nothing, tells_refusal, tells_unread}
+use Rattle.kg_lone.proofs.CommandLemmas.{gives_commands, tells_refusal}
 use Rattle.kg_lone.proofs.commands.first_commands.Goals as goal
 
 -- the commands of the line
