@@ -10,7 +10,7 @@ use Rattle.kg_row_types.specs.ValidRows.{AreValidRows}
 use Rattle.kg_row_types.specs.declared.entity.Entity.{Entity}
 use Rattle.kg_row_types.specs.declared.entity.Kind.{Kind}
 use Rattle.kg_row_changes.specs.Allowed.{is_allowed}
-use Rattle.kg_rows.specs.Decision.{and_then, decision, full, inserted, insertion, needed, proposed, unless}
+use Rattle.kg_rows.specs.Decision.{and_then, decision, full, inserted, needed, proposed, unless}
 use Rattle.kg_rows.specs.References.{link_of}
 use Rattle.kg_row_values.specs.Rows.{changed, rows_after, rows_from}
 use Rattle.kg_rows.specs.Selections.{place_of}
@@ -23,9 +23,8 @@ use Rattle.kg_rows.specs.declared.draft.Refusal.{Refusal}
 use Rattle.kg_rows.specs.declared.draft.Refusal.TheVariants.{NotFound}
 use Rattle.kg_rows.specs.declared.place.Place.{Place}
 use Rattle.kg_row_making.specs.Bases.{New}
-use Rattle.kg_declare.specs.Histories.{InsertsNewRow, InsertsValidRow, IsConsistent, IsDecided, IsInsertion}
-use Rattle.kg_declare.specs.Outcome.{decided}
-use Rattle.kg_declare.specs.Steps.{progress_at}
+use Rattle.kg_declare.specs.Histories.{InsertsValidRow}
+use Rattle.kg_declare.specs.Inserting.{InsertsNewRow, IsConsistent, IsDecided, IsInsertion, decided, progress_at}
 use Rattle.kg_declare.specs.declared.progress.Made.{Made}
 
 -- ---- what is decided of an insertion
@@ -70,7 +69,7 @@ insertion_inserts rows (Delete of_kind parent select) limit done is same = absur
 
 -- ---- one command more
 
-rows_from-push : (rows : RowLists) (commands : List Command) (done : Command) → rows_from rows (commands ++ done ∷ []) ≡ changed done (rows_from rows commands)
+pub rows_from-push : (rows : RowLists) (commands : List Command) (done : Command) → rows_from rows (commands ++ done ∷ []) ≡ changed done (rows_from rows commands)
 rows_from-push rows [] done = refl
 rows_from-push rows (first ∷ commands) done = rows_from-push (changed first rows) commands done
 

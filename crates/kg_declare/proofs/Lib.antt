@@ -1,7 +1,6 @@
-mod DeclaredLemmas
-mod FaultLemmas
 mod HistoryLemmas
 mod LineLemmas
+mod OneByOne
 mod ProgressLemmas
 mod RefusalLemmas
 mod StandLemmas

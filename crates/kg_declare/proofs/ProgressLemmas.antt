@@ -1,26 +1,27 @@
 -- The rows of a declaration, inserted one after another.
-use Rattle.std.proofs.Common.{◌≡◌, ◌≢◌, ℕ, zero, suc, ◌+◌, ◌==◌, ◌<◌, Bool, true, false, cond, List, [], ◌∷◌, ◌++◌, length, get_or, map, fold, Option, Some, None, Result, Ok, Err, refl, sym, ap, ◌∙◌, append_assoc, length-append, subst, true≢false, arith}
+use Rattle.std.proofs.Common.{◌≡◌, ◌≢◌, ℕ, suc, ◌+◌, ◌==◌, ◌<◌, false, List, [], ◌∷◌, ◌++◌, length, get_or, fold, Option, Some, None, Result, Err, refl, sym, ap, ◌∙◌, append_assoc, subst, arith}
 use Rattle.std.proofs.lemmas.Bool.Decides.{nat_tests}
 use Rattle.std.proofs.lemmas.List.{append-nil}
-use Rattle.serde_json.specs.Data.{Data, Members, object}
-use Rattle.kg_row_types.specs.Ids.{drawn_id}
+use Rattle.std.proofs.lemmas.List.Sums.{fold-append}
+use Rattle.serde_json.specs.Data.{Members, object}
 use Rattle.kg_rows.specs.Decision.{Decides}
 use Rattle.kg_row_values.specs.declared.command.Command.{Command}
 use Rattle.kg_rows.specs.declared.draft.DecideError.{DecideError}
 use Rattle.kg_rows.specs.declared.draft.DecideError.TheVariants as decide_error
 use Rattle.kg_rows.specs.declared.draft.Refusal.{Refusal}
 use Rattle.kg_field_rules.proofs.RuleLemmas.{in_order_none}
-use Rattle.kg_field_rules.specs.Rules.{Fault, in_order}
+use Rattle.kg_field_rules.specs.Rules.{Fault, in_order, tell}
 use Rattle.kg_bodies.specs.Settings.{id_at}
 use Rattle.kg_field_rules.specs.declared.rule.Rule.TheVariants.{WrongType}
-use Rattle.kg_declare.specs.Faults.{own_faults}
-use Rattle.kg_declare.specs.Histories.{IsConsistent}
-use Rattle.kg_declare.specs.Outcome.{Progress, Refused, decided, declaration_of, declared, outcome, start, unread, next, identified, inserted, row_faults, violated, with_row, with_rows, wrong_faults}
-use Rattle.kg_declare.specs.Rows.{Row}
-use Rattle.kg_declare.specs.Steps.{IsIdOf, IsRefusedAt, IsUnread, Leaves, Prepares, Refuses, TellsFaults, TellsRefusal, progress_after, progress_at}
+use Rattle.kg_declared_rows.specs.Faults.{own_faults}
+use Rattle.kg_declare.specs.Inserting.{IsConsistent, IsIdOf, IsUnread, Prepares, Refuses, TellsFaults, TellsRefusal, decided, identified, inserted, progress_at, start, with_row, with_rows}
+use Rattle.kg_declare.specs.Outcome.{Progress, Refused, all_added, answered, declaration_of, declared, next, outcome, row_faults, unread, with_ids, wrong_faults}
+use Rattle.kg_declared_rows.specs.Rows.{Row}
+use Rattle.kg_declare.specs.Steps.{IsRefusedAt, progress_after}
 use Rattle.kg_declare.specs.declared.error.DeclareError.{DeclareError}
 use Rattle.kg_declare.specs.declared.error.DeclareError.TheVariants as error
 use Rattle.kg_declare.specs.declared.progress.Made.{Made}
+use Rattle.kg_declare.proofs.OneByOne.{one_by_one}
 
 -- ---- faults
 
@@ -38,6 +39,10 @@ wrong_is_a_fault (fault ∷ faults) (name ∷ wrong) some = λ same. cons_is_som
 
 pub no_wrong : (faults : List Fault) → faults ++ wrong_faults [] ≡ faults
 no_wrong faults = append-nil faults
+
+-- faults that are told behind those in order are in order with them
+pub told_behind : (own behind told : List Fault) → told ≡ fold tell (in_order own) behind → told ≡ in_order (own ++ behind)
+told_behind own behind told is = is ∙ sym (fold-append tell [] own behind)
 
 -- ---- one row
 
@@ -144,7 +149,11 @@ faulty_refused line declaration now limit draws error.NoMemory read told = tt
 pub faultless_inserted : (line : List ℕ) (rows : List Row) (now limit : ℕ) (draws : List (List ℕ)) → Prepares line rows
     → outcome line now limit draws ≡ with_rows draws now limit rows start
 unfolding outcome declared
-faultless_inserted line rows now limit draws ready = rw (ready.read, ready.faultless, ready.rows) refl
+faultless_inserted line rows now limit draws ready =
+    declared_rows ∙ sym (one_by_one now limit draws rows)
+  where
+    declared_rows : outcome line now limit draws ≡ answered rows (all_added now limit (with_ids draws rows) [])
+    declared_rows = rw (ready.read, ready.faultless, ready.rows) refl
 
 -- beginning with no rows
 pub from_start : (draws : List (List ℕ)) (now limit : ℕ) (rows : List Row) (old : Made) (answer : Result Progress Refused) → progress_at old 0 ≡ start

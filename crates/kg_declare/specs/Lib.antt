@@ -1,7 +1,5 @@
-pub mod Faults
 pub mod Histories
+pub mod Inserting
 pub mod Outcome
 pub mod RefusalBody
-pub mod Rows
-pub mod SeenRows
 pub mod Steps

@@ -1,20 +1,22 @@
--- What becomes of a declaration: the commands of its rows, each decided at the rows so far, or the reply
--- to the first that is refused. The k-th id that is drawn is that of the k-th row without one.
-use Rattle.std.specs.Prelude.{◌≡◌, ℕ, suc, ◌==◌, List, [], ◌∷◌, ◌++◌, length, get_or, map, slice_get, Option, Some, None, is_some, unwrap_or, option_map, option_and_then, Result, Ok, Err, codes, if◌then◌else◌, ⊤}
+-- What becomes of a declaration: the commands of its rows, each decided at the rows before it, or the reply
+-- to the first row that is refused. The k-th id that is drawn is that of the k-th row without one (this
+-- project's own).
+use Rattle.std.specs.Prelude.{ℕ, suc, Bool, ◌==◌, ◌&&◌, List, [], ◌∷◌, ◌++◌, count_by, drop, length, get_or, map, take, slice_get, Option, Some, None, is_none, is_some, unwrap_or, option_map, option_and_then, Result, Ok, Err, codes, if◌then◌else◌}
 use Rattle.std.specs.Option.{option_map_or}
 use Rattle.std.specs.Str.{is_utf8}
 use Rattle.serde_json.specs.Data.{Data, object, Members, no_members}
 use Rattle.serde_json.specs.Find.{as_object}
 use Rattle.serde_json.specs.Read.{read}
 use Rattle.kg_row_types.specs.Ids.{drawn_id}
-use Rattle.kg_row_types.specs.RowLists.{RowLists, no_rows}
+use Rattle.kg_row_types.specs.Entities.{id_of_row}
+use Rattle.kg_row_types.specs.RowLists.{RowLists}
 use Rattle.kg_row_types.specs.declared.entity.Kind.{Kind}
-use Rattle.kg_row_types.specs.declared.entity.Kind.TheVariants as kind
 use Rattle.kg_message.specs.GatewayMessage.{gateway_message}
 use Rattle.kg_message.specs.declared.response.Response.{Response}
 use Rattle.kg_rows.specs.Decision.{insertion}
-use Rattle.kg_row_values.specs.Rows.{changed}
+use Rattle.kg_row_values.specs.Rows.{rows_after}
 use Rattle.kg_row_values.specs.declared.command.Command.{Command}
+use Rattle.kg_row_values.specs.declared.command.Command.TheVariants.{Insert, Update, Delete}
 use Rattle.kg_rows.specs.declared.draft.Refusal.{Refusal}
 use Rattle.kg_rows.specs.declared.select.Parent.{Parent}
 use Rattle.kg_rows.specs.declared.select.Select.TheVariants.{Id}
@@ -22,10 +24,10 @@ use Rattle.kg_field_tables.specs.BrokenRules.{field_faults}
 use Rattle.kg_field_rules.specs.Rules.{Fault, in_order, listed}
 use Rattle.kg_bodies.specs.Settings.{id_at}
 use Rattle.kg_field_rules.specs.declared.rule.Rule.TheVariants.{WrongType}
-use Rattle.kg_declare.specs.Faults.{own_faults}
+use Rattle.kg_declared_rows.specs.Faults.{own_faults}
 use Rattle.kg_declare.specs.RefusalBody.{refusal_response, violation_response}
-use Rattle.kg_declare.specs.Rows.{Row, rows_of}
-use Rattle.kg_declare.specs.declared.declared.Place.{Place}
+use Rattle.kg_declared_rows.specs.Rows.{Row, rows_of}
+use Rattle.kg_declared_rows.specs.declared.declared.Above.{Above}
 
 -- ---- the line
 
@@ -49,32 +51,82 @@ body_faults of_kind body wrong = field_faults of_kind body ++ wrong_faults wrong
 unfoldable pub row_faults : Row → List Fault
 row_faults row = body_faults row.kind (object row.members) row.wrong
 
--- the id of the row of a kind at a place, counted from 0
-abbrev pub id_in_place : Place → RowLists → Option ℕ
-id_in_place place rows = id_in place.kind
-  where
-    id_in : Kind → Option ℕ
-    id_in kind.Service = option_map (λ row. row.id) (slice_get rows.services place.index)
-    id_in kind.Route = option_map (λ row. row.id) (slice_get rows.routes place.index)
-    id_in kind.Consumer = option_map (λ row. row.id) (slice_get rows.consumers place.index)
-    id_in _ = None
+-- ---- the rows with their ids
 
-abbrev pub parent_in_place : RowLists → Place → Option Parent
-parent_in_place rows place = option_map (λ id. record { kind = place.kind; select = Id id }) (id_in_place place rows)
+-- the id that a row names
+abbrev pub own_id : Row → Option ℕ
+own_id row = id_at (object row.members)
 
-abbrev pub parent_of : RowLists → Option Place → Option Parent
-parent_of rows place = option_and_then (parent_in_place rows) place
+-- a row with the id that it names or that is drawn for it
+pub record Identified : Type 0 where
+  pub row : Row
+  pub id : ℕ
 
--- the rows so far with their commands, and how many ids were drawn
+-- the rows with their ids: a row that names none has the next that is drawn
+abbrev pub with_ids : List (List ℕ) → List Row → List Identified
+with_ids draws [] = []
+with_ids draws (row ∷ rows) =
+    record { row = row; id = unwrap_or (own_id row) (drawn_id (get_or draws 0 [])) }
+    ∷ with_ids (if is_some (own_id row) then draws else drop 1 draws) rows
+
+-- ---- one row more
+
+-- the id of the row that a command inserts
+abbrev pub inserted_id : Command → Option ℕ
+inserted_id (Insert new) = Some (id_of_row new)
+inserted_id (Update new) = None
+inserted_id (Delete kind id) = None
+
+-- the row above is the one that was inserted with its number
+abbrev pub parent_at : List Command → Above → Option Parent
+parent_at commands above =
+    option_map (λ id. record { kind = above.kind; select = Id id }) (option_and_then inserted_id (slice_get commands above.number))
+
+abbrev pub parent_of : List Command → Option Above → Option Parent
+parent_of commands above = option_and_then (parent_at commands) above
+
+-- the reply to a row that is refused, and the row's number
+pub record RefusedRow : Type 0 where
+  pub response : Response
+  pub number : ℕ
+
+-- the commands with one more
+abbrev pub extended : List Command → Result Command Refusal → Result (List Command) RefusedRow
+extended commands (Ok command) = Ok (commands ++ command ∷ [])
+extended commands (Err refusal) = Err (record { response = refusal_response refusal; number = length commands })
+
+-- the commands with that of the next row, where its fields are accepted and so is its insertion
+abbrev pub added : ℕ → ℕ → Identified → List Command → Result (List Command) RefusedRow
+added now limit one commands =
+    if length (row_faults one.row) == 0
+    then extended commands (insertion (rows_after commands) one.row.kind (parent_of commands one.row.parent) (object one.row.members) one.id now limit)
+    else Err (record { response = violation_response (listed (in_order (row_faults one.row))); number = length commands })
+
+-- ---- all rows
+
+-- what comes next, if nothing was refused
+abbrev pub next : {A B E : Type 0} → (A → Result B E) → Result A E → Result B E
+next step (Ok done) = step done
+next step (Err refused) = Err refused
+
+-- the commands with those of these rows, up to the first that is refused
+abbrev pub all_added : ℕ → ℕ → List Identified → List Command → Result (List Command) RefusedRow
+all_added now limit [] commands = Ok commands
+all_added now limit (first ∷ rest) commands = next (all_added now limit rest) (added now limit first commands)
+
+-- an id is drawn for a row that names none, once its fields are accepted
+abbrev pub draws_id : Row → Bool
+draws_id row = length (row_faults row) == 0 && is_none (own_id row)
+
+-- ---- the declaration
+
+-- what is accepted: the rows after the commands, the commands, and how many ids were drawn
 pub record Progress : Type 0 where
   pub rows : RowLists
   pub commands : List Command
   pub drawn : ℕ
 
-abbrev pub start : Progress
-start = record { rows = no_rows; commands = []; drawn = 0 }
-
--- a row is refused when so many ids were drawn
+-- what is refused: the reply, and how many ids were drawn
 pub record Refused : Type 0 where
   pub response : Response
   pub drawn : ℕ
@@ -82,50 +134,18 @@ pub record Refused : Type 0 where
 abbrev pub violated : List Fault → ℕ → Refused
 violated faults drawn = record { response = violation_response (listed (in_order faults)); drawn = drawn }
 
-abbrev pub decided : Progress → ℕ → Result Command Refusal → Result Progress Refused
-decided progress drawn (Ok command) = Ok (record {
-  rows = changed command progress.rows;
-  commands = progress.commands ++ command ∷ [];
-  drawn = drawn;
-})
-decided progress drawn (Err refusal) = Err (record { response = refusal_response refusal; drawn = drawn })
-
--- the row with this id is inserted
-abbrev pub inserted : ℕ → ℕ → Row → ℕ → ℕ → Progress → Result Progress Refused
-inserted now limit row id drawn progress =
-    decided progress drawn (insertion progress.rows row.kind (parent_of progress.rows row.parent) (object row.members) id now limit)
-
--- the row has the id that it names, or the next one that is drawn
-abbrev pub identified : List (List ℕ) → ℕ → ℕ → Row → Option ℕ → Progress → Result Progress Refused
-identified draws now limit row (Some id) progress = inserted now limit row id progress.drawn progress
-identified draws now limit row None progress =
-    inserted now limit row (drawn_id (get_or draws progress.drawn [])) (suc progress.drawn) progress
-
--- its fields are judged before an id is drawn for it
-unfoldable pub with_row : List (List ℕ) → ℕ → ℕ → Row → Progress → Result Progress Refused
-with_row draws now limit row progress =
-    if length (row_faults row) == 0
-    then identified draws now limit row (id_at (object row.members)) progress
-    else Err (violated (row_faults row) progress.drawn)
-
--- ---- all rows
-
--- what comes next, if nothing was refused
-abbrev pub next : (Progress → Result Progress Refused) → Result Progress Refused → Result Progress Refused
-next step (Ok progress) = step progress
-next step (Err refused) = Err refused
-
-abbrev pub with_rows : List (List ℕ) → ℕ → ℕ → List Row → Progress → Result Progress Refused
-with_rows draws now limit [] progress = Ok progress
-with_rows draws now limit (row ∷ rows) progress = next (with_rows draws now limit rows) (with_row draws now limit row progress)
-
--- ---- the declaration
+-- of these rows ids are drawn for all, or for those up to the refused one
+abbrev pub answered : List Row → Result (List Command) RefusedRow → Result Progress Refused
+answered rows (Ok commands) =
+    Ok (record { rows = rows_after commands; commands = commands; drawn = count_by draws_id rows })
+answered rows (Err refused) =
+    Err (record { response = refused.response; drawn = count_by draws_id (take (suc refused.number) rows) })
 
 -- at the time `now`, in milliseconds, with at most `limit` rows of a kind
 unfoldable pub declared : List (List ℕ) → ℕ → ℕ → Members → Result Progress Refused
 declared draws now limit declaration =
     if length (own_faults declaration) == 0
-    then with_rows draws now limit (rows_of declaration) start
+    then answered (rows_of declaration) (all_added now limit (with_ids draws (rows_of declaration)) [])
     else Err (violated (own_faults declaration) 0)
 
 unfoldable pub unread : Refused

@@ -8,7 +8,7 @@ use kg_text::NoMemory;
 use std::alloc::{AllocError, AllocFailed};
 
 /// Why a declaration gave no commands.
-#[derive(Debug, PartialEq, Drop)]
+#[derive(Drop)]
 pub enum DeclareError {
     /// It is refused, with the reply that a request would have.
     Refused(Response),

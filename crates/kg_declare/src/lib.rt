@@ -1,9 +1,7 @@
 //! The declaration: rows of all kinds as one object of JSON, and the replies to what is refused.
 #![tactic(auto)]
 
-mod declared;
 mod error;
-mod faults;
 mod line;
 mod progress;
 mod refusal;

@@ -3,17 +3,17 @@
 ghost use Rattle.std.specs.Prelude.{◌≡◌, ℕ, List as Sequence, [], IfErr, IfOk, OnOk, Some, option_map};
 ghost use Rattle.serde_json.specs.Find.{as_object};
 ghost use Rattle.serde_json.specs.View.{members_view, view};
-ghost use Rattle.kg_declare.specs.Faults.{own_faults};
-ghost use Rattle.kg_declare.specs.Histories.{AreInsertions, IsConsistent};
+ghost use Rattle.kg_declared_rows.specs.Faults.{own_faults};
+ghost use Rattle.kg_declare.specs.Histories.{AreInsertions};
+ghost use Rattle.kg_declare.specs.Inserting.{IsConsistent, IsUnread, Prepares, TellsFaults};
 ghost use Rattle.kg_declare.specs.Outcome.{declaration_of, json_of, outcome};
-ghost use Rattle.kg_declare.specs.SeenRows.{seen_all};
-ghost use Rattle.kg_declare.specs.Steps.{Declares, IsRefusedAt, IsUnread, Prepares, TellsFaults};
+ghost use Rattle.kg_declared_rows.specs.SeenRows.{seen_all};
+ghost use Rattle.kg_declare.specs.Steps.{Declares, IsRefusedAt};
 
-use crate::declared::{Declared, rows_of};
 use crate::error::DeclareError;
-use crate::faults::own_faults;
 use crate::progress::{Made, insert_rows};
 use crate::refusal::violation_response;
+use kg_declared_rows::{Declared, own_faults, rows_of};
 use kg_message::message;
 use kg_outside::Ids;
 use kg_rows::{Command, allowed_commands_make_valid_rows};
@@ -49,7 +49,10 @@ pub fn declare<I: Ids>(
     let mut made = Made::new(alloc);
     match insert_rows(alloc, rows, &mut made, ids, now, limit) {
         Ok(()) => Ok(commands_of(made, limit)),
-        Err(e) => Err(e),
+        Err(e) => {
+            drop(made);
+            Err(e)
+        }
     }
 }
 
@@ -60,7 +63,9 @@ fn commands_of(made: Made, limit: u32) -> List<Command>
 {
     allowed_commands_make_valid_rows();
     let _limit = limit;
-    made.commands
+    let Made { rows, commands } = made;
+    drop(rows);
+    commands
 }
 
 // The rows of a declaration with which itself nothing is wrong.

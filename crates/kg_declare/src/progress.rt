@@ -1,21 +1,19 @@
 //! The rows of a declaration, inserted one after another.
 
-ghost use Rattle.std.specs.Prelude.{◌≡◌, [], ◌∷◌, ◌++◌, ℕ, ◌<◌, All, IfErr, IfOk, OnOk, fold, length, map};
+ghost use Rattle.std.specs.Prelude.{◌≡◌, [], ◌∷◌, ◌++◌, ℕ, ◌<◌, All, IfErr, IfOk, OnOk, fold, length, map, option_and_then, slice_get};
 ghost use Rattle.serde_json.specs.Data.{object};
 ghost use Rattle.serde_json.specs.View.{members_view, view};
 ghost use Rattle.kg_rows.specs.Decision.{IsProper, decision};
 ghost use Rattle.kg_row_values.specs.Rows.{changed};
 ghost use Rattle.kg_field_rules.specs.Rules.{tell};
 ghost use Rattle.kg_bodies.specs.Settings.{id_at};
-ghost use Rattle.kg_declare.specs.Histories.{InsertsNewRow, IsConsistent, IsDecided, IsInsertion};
-ghost use Rattle.kg_declare.specs.Outcome.{body_faults, decided, id_in_place, parent_in_place, parent_of, row_faults, start, with_row, with_rows, wrong_faults};
-ghost use Rattle.kg_declare.specs.Rows.{Stands};
-ghost use Rattle.kg_declare.specs.SeenRows.{seen, seen_all};
-ghost use Rattle.kg_declare.specs.Steps.{Identifies, Leaves, Refuses, Steps, StepsFromStart, TellsFaults, TellsRefusal, progress_at};
+ghost use Rattle.kg_declare.specs.Inserting.{Identifies, InsertsNewRow, IsConsistent, IsDecided, IsInsertion, Leaves, Refuses, Stands, Steps, StepsFromStart, TellsFaults, TellsRefusal, decided, progress_at, start, with_row, with_rows};
+ghost use Rattle.kg_declare.specs.Outcome.{body_faults, inserted_id, parent_at, parent_of, row_faults, wrong_faults};
+ghost use Rattle.kg_declared_rows.specs.SeenRows.{seen, seen_all};
 
-use crate::declared::{Declared, Place};
 use crate::error::DeclareError;
 use crate::refusal::{refusal_response, violation_response};
+use kg_declared_rows::{Above, Declared};
 use kg_entities::{Id, Kind, Rows};
 use kg_outside::Ids;
 use kg_rows::{
@@ -81,7 +79,7 @@ fn insert_row<I: Ids>(
     ensures consistent { IsConsistent limit made.old → OnOk result (IsConsistent limit made.new) }
 {
     let kind = row.kind;
-    let parent = parent_of(&made.rows, row.parent);
+    let parent = parent_of(&made.commands, row.parent);
     match form_of(alloc, row) {
         Ok(form) => {
             let id = id_of(&form, ids);
@@ -92,7 +90,9 @@ fn insert_row<I: Ids>(
                 id,
                 now,
             };
-            insert(alloc, &draft, made, limit)
+            let inserted = insert(alloc, &draft, made, limit);
+            drop(draft);
+            inserted
         }
         Err(e) => Err(e),
     }
@@ -132,10 +132,14 @@ fn refused(alloc: Global, e: DecideError) -> DeclareError
     ensures { TellsRefusal result e }
 {
     match e {
-        DecideError::Refused(refusal) => match refusal_response(alloc, &refusal) {
-            Ok(response) => DeclareError::Refused(response),
-            Err(NoMemory) => DeclareError::NoMemory,
-        },
+        DecideError::Refused(refusal) => {
+            let response = refusal_response(alloc, &refusal);
+            drop(refusal);
+            match response {
+                Ok(response) => DeclareError::Refused(response),
+                Err(NoMemory) => DeclareError::NoMemory,
+            }
+        }
         DecideError::NoMemory => DeclareError::NoMemory,
     }
 }
@@ -146,9 +150,13 @@ fn add(alloc: Global, made: &mut Made, command: Command) -> Result<(), NoMemory>
     ensures rows { OnOk result (made.new.rows ≡ changed command made.old.rows) }
     ensures commands { OnOk result (made.new.commands ≡ made.old.commands ++ command ∷ []) }
 {
-    add_row(alloc, &mut made.rows, &command)?;
-    made.commands.push(command)?;
-    Ok(())
+    match add_row(alloc, &mut made.rows, &command) {
+        Ok(()) => made.commands.push(command),
+        Err(e) => {
+            drop(command);
+            Err(e)
+        }
+    }
 }
 
 fn add_row(alloc: Global, rows: &mut Rows, command: &Command) -> Result<(), NoMemory>
@@ -186,7 +194,11 @@ fn form_of(alloc: Global, row: Declared) -> Result<Form, DeclareError>
         wrong,
         ..
     } = row;
-    judged(alloc, kind, &Value::from(members), wrong.as_slice())
+    let body = Value::from(members);
+    let form = judged(alloc, kind, &body, wrong.as_slice());
+    drop(body);
+    drop(wrong);
+    form
 }
 
 #[tactic(auto, using(crate::proofs::ProgressLemmas::no_wrong))]
@@ -210,7 +222,6 @@ fn judged(alloc: Global, kind: Kind, body: &Value, wrong: &[&str]) -> Result<For
 }
 
 // The refusal of a body some of whose nested lists aren't lists of objects.
-#[tactic(auto, using(crate::proofs::ProgressLemmas::wrong_is_a_fault))]
 fn told(alloc: Global, kind: Kind, body: &Value, wrong: &[&str]) -> Result<DeclareError, NoMemory>
     requires { 0 < length wrong.now }
     ensures { IfOk result (λ e. TellsFaults e (body_faults kind (view body.now) (map (λ name. name.now) wrong.now))) }
@@ -230,38 +241,44 @@ fn tell_wrong(alloc: Global, wrong: &[&str], faults: &mut Faults) -> Result<(), 
     Ok(())
 }
 
-// The row at a place, as the parent of another.
-fn parent_of(rows: &Rows, place: Option<Place>) -> Option<Parent>
-    ensures { result ≡ parent_of rows.now place }
+// The row above, as the parent of another.
+fn parent_of(commands: &List<Command>, above: Option<Above>) -> Option<Parent>
+    ensures { result ≡ parent_of commands.now above }
 {
-    match place {
-        Some(place) => parent_in_place(rows, place),
+    match above {
+        Some(above) => parent_at(commands, above),
         None => None,
     }
 }
 
-fn parent_in_place(rows: &Rows, place: Place) -> Option<Parent>
-    ensures { result ≡ parent_in_place rows.now place }
+fn parent_at(commands: &List<Command>, above: Above) -> Option<Parent>
+    ensures { result ≡ parent_at commands.now above }
 {
-    match id_in_place(rows, place) {
+    match id_of_number(commands, above.number) {
         Some(id) => Some(Parent {
-            kind: place.kind,
+            kind: above.kind,
             select: Select::Id(id),
         }),
         None => None,
     }
 }
 
-fn id_in_place(rows: &Rows, place: Place) -> Option<Id>
-    ensures { result ≡ id_in_place place rows.now }
+// The id of the row that was inserted with this number.
+fn id_of_number(commands: &List<Command>, number: usize) -> Option<Id>
+    ensures { result ≡ option_and_then inserted_id (slice_get commands.now number) }
 {
-    match place.kind {
-        Kind::Service => Some(rows.services().as_slice().get(place.index)?.id),
-        Kind::Route => Some(rows.routes().as_slice().get(place.index)?.id),
-        Kind::Consumer => Some(rows.consumers().as_slice().get(place.index)?.id),
-        Kind::KeyCred => None,
-        Kind::BasicCred => None,
-        Kind::Acl => None,
-        Kind::Plugin => None,
+    match commands.get(number) {
+        Some(command) => inserted_id(command),
+        None => None,
+    }
+}
+
+fn inserted_id(command: &Command) -> Option<Id>
+    ensures { result ≡ inserted_id command.now }
+{
+    match command {
+        Command::Insert(row) => Some(row.id()),
+        Command::Update(_) => None,
+        Command::Delete { .. } => None,
     }
 }

@@ -1,8 +1,8 @@
 use Rattle.std.proofs.Common.{[], ◌++◌, All, Ok, length, refl, sym, ap, subst, ◌∙◌}
-use Rattle.kg_declare.specs.Outcome.{outcome, with_rows}
-use Rattle.kg_declare.specs.Rows.{Stands}
-use Rattle.kg_declare.specs.SeenRows.{seen_all}
-use Rattle.kg_declare.specs.Steps.{progress_after, progress_at}
+use Rattle.kg_declare.specs.Inserting.{Stands, progress_at, with_rows}
+use Rattle.kg_declare.specs.Outcome.{outcome}
+use Rattle.kg_declared_rows.specs.SeenRows.{seen_all}
+use Rattle.kg_declare.specs.Steps.{progress_after}
 use Rattle.kg_declare.proofs.ProgressLemmas.{at_commands, faultless_inserted, from_start, refused_later}
 use Rattle.kg_declare.proofs.StandLemmas.{rows_stand}
 use Rattle.kg_declare.proofs.line.declare.Goals as goal

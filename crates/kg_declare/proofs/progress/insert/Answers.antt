@@ -1,7 +1,7 @@
 use Rattle.std.proofs.Common.{sym, subst}
 use Rattle.kg_row_types.specs.ValidRows.{AreValidRows}
 use Rattle.kg_rows.specs.Decision.{decision}
-use Rattle.kg_declare.specs.Steps.{progress_at}
+use Rattle.kg_declare.specs.Inserting.{progress_at}
 use Rattle.kg_declare.proofs.HistoryLemmas.{step_consistent, step_leaves}
 use Rattle.kg_declare.proofs.ProgressLemmas.{refused_at}
 use Rattle.kg_declare.proofs.progress.insert.Goals as goal

@@ -1,9 +1,7 @@
-use Rattle.std.proofs.Common.{◌≡◌, ◌∷◌, ◌+◌, ◌++◌, All, length, length-append, ◌∙◌, sym, ap, subst}
+use Rattle.std.proofs.Common.{◌+◌, ◌++◌, All, length, length-append, ◌∙◌, sym, ap, subst}
 use Rattle.std.proofs.lemmas.List.Elements.{All-head, All-tail}
-use Rattle.kg_declare.specs.Outcome.{next, with_row, with_rows}
-use Rattle.kg_declare.specs.Rows.{Stands}
-use Rattle.kg_declare.specs.SeenRows.{seen, seen_all}
-use Rattle.kg_declare.specs.Steps.{progress_at}
+use Rattle.kg_declare.specs.Inserting.{Stands, progress_at, with_row, with_rows}
+use Rattle.kg_declared_rows.specs.SeenRows.{seen, seen_all}
 use Rattle.kg_declare.proofs.ProgressLemmas.{SoFar, ahead_row, nothing_ahead_yet, nothing_left, refused_later}
 use Rattle.kg_declare.proofs.progress.insert_rows.Goals as goal
 

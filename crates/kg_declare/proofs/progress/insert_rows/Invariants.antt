@@ -1,7 +1,6 @@
 use Rattle.std.proofs.Common.{All}
-use Rattle.kg_declare.specs.Histories.{IsConsistent}
-use Rattle.kg_declare.specs.Rows.{Stands}
-use Rattle.kg_declare.specs.SeenRows.{seen_all}
+use Rattle.kg_declare.specs.Inserting.{IsConsistent, Stands}
+use Rattle.kg_declared_rows.specs.SeenRows.{seen_all}
 use Rattle.kg_declare.proofs.ProgressLemmas.{SoFar}
 use Rattle.kg_declare.proofs.progress.insert_rows.Given as goal
 
