@@ -9,12 +9,12 @@ use Rattle.std.specs.declared.cmp.Ordering.TheVariants.{Less, Equal, Greater}
 use Rattle.serde_json.specs.Data.{Data, null, boolean, number, string, array, object, no_items, item, Members, no_members, member}
 use Rattle.serde_json.specs.Find.{get, get_member}
 use Rattle.kg_row_types.specs.declared.entity.Kind.TheVariants as kind
-use Rattle.kg_field_rules.specs.TextRules.{kept}
-use Rattle.kg_field_rules.specs.declared.word.Word.{Word}
-use Rattle.kg_field_rules.specs.declared.word.Word.TheVariants as word
+use Rattle.kg_field_rules.specs.TextRules.{stored}
+use Rattle.kg_field_rules.specs.declared.text_kind.TextKind.{TextKind}
+use Rattle.kg_field_rules.specs.declared.text_kind.TextKind.TheVariants as text_kind
 use Rattle.kg_bodies.specs.Settings.{texts_at}
 use Rattle.kg_field_tables.specs.Accepted.{AcceptsMembers, IsAccepted}
-use Rattle.kg_field_tables.specs.BrokenRules.{faults_in, faults_inside, field_faults, field_rule, told}
+use Rattle.kg_field_tables.specs.BrokenRules.{violations_in, violations_inside, field_violations, field_rule, told}
 use Rattle.kg_field_tables.specs.FieldTables.{field_of}
 use Rattle.kg_field_rules.specs.declared.rule.Rule.{Rule}
 use Rattle.kg_field_tables.specs.Judging.{is_set, judged, texts_of}
@@ -34,10 +34,10 @@ nothing_told path (Some rule) h = cc
 same_key : (k l : List ℕ) → slice_cmp nat_cmp k l ≡ Equal → l ≡ k
 same_key k l same = sym (exact_bytes k l same)
 
--- the faults of the first member, and those of the rest
+-- the violations of the first member, and those of the rest
 step : (name : List ℕ) (d : Data) (rest : Members) (table : Table) (front : List ℕ)
-    → faults_in (member name d rest) table front
-    ≡ told (front ++ name) (field_rule (field_of table name) d) ++ faults_inside d (field_of table name) (front ++ name) ++ faults_in rest table front
+    → violations_in (member name d rest) table front
+    ≡ told (front ++ name) (field_rule (field_of table name) d) ++ violations_inside d (field_of table name) (front ++ name) ++ violations_in rest table front
 step name null rest table front = refl
 step name (boolean b) rest table front = refl
 step name (number n) rest table front = refl
@@ -45,12 +45,12 @@ step name (string s) rest table front = refl
 step name (array ds) rest table front = refl
 step name (object ms) rest table front = refl
 
-first_faults : (name : List ℕ) (d : Data) (rest : Members) (table : Table) (front : List ℕ) → faults_in (member name d rest) table front ≡ []
-    → IsAccepted table front name d × (faults_in rest table front ≡ [])
-first_faults name d rest table front h =
+first_violations : (name : List ℕ) (d : Data) (rest : Members) (table : Table) (front : List ℕ) → violations_in (member name d rest) table front ≡ []
+    → IsAccepted table front name d × (violations_in rest table front ≡ [])
+first_violations name d rest table front h =
     let itself = told (front ++ name) (field_rule (field_of table name) d) in
-    let inside = faults_inside d (field_of table name) (front ++ name) in
-    let parts = nil_parts (itself ++ inside) (faults_in rest table front) (sym (step name d rest table front) ∙ h) in
+    let inside = violations_inside d (field_of table name) (front ++ name) in
+    let parts = nil_parts (itself ++ inside) (violations_in rest table front) (sym (step name d rest table front) ∙ h) in
     let two = nil_parts itself inside parts.0 in
     (record { itself = nothing_told (front ++ name) (field_rule (field_of table name) d) two.0; inside = two.1 }, parts.1)
 
@@ -67,16 +67,16 @@ at_order table front name l d e later Equal is found here there =
 pub members_accepted : AcceptsMembers
 members_accepted no_members table front name d h found = cc
 members_accepted (member l e rest) table front name d h found =
-    let parts = first_faults l e rest table front h in
+    let parts = first_violations l e rest table front h in
     at_order table front name l d e (get_member name rest) (slice_cmp nat_cmp name l) refl found parts.0
     (λ later. members_accepted rest table front name d parts.1 later)
 
 -- ---- the paths of a route
 
--- the texts of a list that breaks no rule, as they are kept
-list_accepted : (kind : Word) (d : Data) → judged (shape.Texts kind) d ≡ None
-    → option_map_or (map (kept kind)) (option_and_then texts_of (if is_set d then (if is_some (judged (shape.Texts kind) d) then None else Some d) else None)) []
-    ≡ option_map_or (map (kept kind)) (texts_of d) []
+-- the texts of a list that breaks no rule, as they are stored
+list_accepted : (kind : TextKind) (d : Data) → judged (shape.Texts kind) d ≡ None
+    → option_map_or (map (stored kind)) (option_and_then texts_of (if is_set d then (if is_some (judged (shape.Texts kind) d) then None else Some d) else None)) []
+    ≡ option_map_or (map (stored kind)) (texts_of d) []
 list_accepted kind null ok = refl
 list_accepted kind (boolean b) ok = cc
 list_accepted kind (number n) ok = cc
@@ -84,11 +84,11 @@ list_accepted kind (string s) ok = cc
 list_accepted kind (object ms) ok = cc
 list_accepted kind (array no_items) ok = refl
 list_accepted kind (array (item first rest)) ok =
-    ap (λ (rule : Option Rule). option_map_or (map (kept kind)) (option_and_then texts_of (if is_some rule then None else Some (array (item first rest)))) []) ok
+    ap (λ (rule : Option Rule). option_map_or (map (stored kind)) (option_and_then texts_of (if is_some rule then None else Some (array (item first rest)))) []) ok
 
 -- of a body in which nothing is broken
-pub paths_accepted : (body : Data) → field_faults kind.Route body ≡ []
-    → texts_at word.RoutePath (codes "paths") body ≡ option_map_or (map (kept word.RoutePath)) (option_and_then texts_of (get (codes "paths") body)) []
+pub paths_accepted : (body : Data) → field_violations kind.Route body ≡ []
+    → texts_at text_kind.RoutePath (codes "paths") body ≡ option_map_or (map (stored text_kind.RoutePath)) (option_and_then texts_of (get (codes "paths") body)) []
 paths_accepted null ok = refl
 paths_accepted (boolean b) ok = refl
 paths_accepted (number n) ok = refl
@@ -97,7 +97,7 @@ paths_accepted (array ds) ok = refl
 paths_accepted (object ms) ok = at_member (get_member (codes "paths") ms) refl
   where
     at_member : (o : Option Data) → get_member (codes "paths") ms ≡ o
-        → option_map_or (map (kept word.RoutePath)) (option_and_then texts_of (option_and_then (λ d. if is_set d then (if is_some (judged (shape.Texts word.RoutePath) d) then None else Some d) else None) o)) []
-        ≡ option_map_or (map (kept word.RoutePath)) (option_and_then texts_of o) []
+        → option_map_or (map (stored text_kind.RoutePath)) (option_and_then texts_of (option_and_then (λ d. if is_set d then (if is_some (judged (shape.Texts text_kind.RoutePath) d) then None else Some d) else None) o)) []
+        ≡ option_map_or (map (stored text_kind.RoutePath)) (option_and_then texts_of o) []
     at_member None is = refl
-    at_member (Some d) is = list_accepted word.RoutePath d (members_accepted ms table.Route [] (codes "paths") d ok is).itself
+    at_member (Some d) is = list_accepted text_kind.RoutePath d (members_accepted ms table.Route [] (codes "paths") d ok is).itself

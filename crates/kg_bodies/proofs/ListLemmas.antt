@@ -3,16 +3,16 @@ use Rattle.std.proofs.Common.{◌≡◌, ℕ, ◌==◌, nat_lt, if◌then◌else
 use Rattle.std.specs.List.{list_all, list_any}
 use Rattle.std.specs.Option.{option_map_or}
 use Rattle.std.specs.Str.{bytes_eq}
-use Rattle.kg_row_types.specs.Words.{are_distinct}
+use Rattle.kg_row_types.specs.TextForms.{are_distinct}
 use Rattle.kg_field_rules.proofs.RuleLemmas.{first_of_both, nothing_broken, text_steps}
 use Rattle.kg_field_rules.specs.Choices.{is_choice}
 use Rattle.kg_field_rules.specs.Rules.{broken_if, first_by_rank, sooner}
-use Rattle.kg_field_rules.specs.TextRules.{has_form, is_longer, kept, text_breaks}
+use Rattle.kg_field_rules.specs.TextRules.{has_form, is_longer, stored, text_breaks}
 use Rattle.kg_field_rules.specs.declared.rule.Rule.{Rule}
 use Rattle.kg_field_rules.specs.declared.rule.Rule.TheVariants.{WrongType, Empty, OutOfRange, OneOf, Syntax, Repeated}
-use Rattle.kg_field_rules.specs.declared.word.Choice.TheVariants as choice
-use Rattle.kg_field_rules.specs.declared.word.Word.{Word}
-use Rattle.kg_field_rules.specs.declared.word.Word.TheVariants as word
+use Rattle.kg_field_rules.specs.declared.text_kind.Choice.TheVariants as choice
+use Rattle.kg_field_rules.specs.declared.text_kind.TextKind.{TextKind}
+use Rattle.kg_field_rules.specs.declared.text_kind.TextKind.TheVariants as text_kind
 use Rattle.kg_field_tables.specs.Judging.{list_breaks, list_rule, protocols_rule, typed}
 
 -- what was found, as a list
@@ -41,7 +41,7 @@ one_more false false false false true fs = refl
 one_more false false false false false true = refl
 one_more false false false false false false = refl
 
-of_all : (kind : Word) (texts : List (List ℕ)) → first_by_rank (flat_map (text_breaks kind) texts)
+of_all : (kind : TextKind) (texts : List (List ℕ)) → first_by_rank (flat_map (text_breaks kind) texts)
     ≡ of_texts (list_any (λ text. length text == 0) texts) (list_any (is_longer kind) texts) (list_all (has_form kind) texts)
 of_all kind [] = refl
 of_all kind (text ∷ texts) =
@@ -70,18 +70,18 @@ with_length false false false false true = refl
 with_length false false false false false = refl
 
 -- the rule of a list
-pub list_steps : (kind : Word) (texts : List (List ℕ)) → list_rule kind texts
+pub list_steps : (kind : TextKind) (texts : List (List ℕ)) → list_rule kind texts
     ≡ (if list_any (λ text. length text == 0) texts then Some Empty
     else (if nat_lt 64 (length texts) || list_any (is_longer kind) texts then Some OutOfRange
     else (if not (list_all (has_form kind) texts) then Some Syntax
-    else (if not (are_distinct (map (kept kind) texts)) then Some Repeated else None))))
+    else (if not (are_distinct (map (stored kind) texts)) then Some Repeated else None))))
 list_steps kind texts =
     let many = broken_if (nat_lt 64 (length texts)) OutOfRange in
-    let repeated = broken_if (not (are_distinct (map (kept kind) texts))) Repeated in
+    let repeated = broken_if (not (are_distinct (map (stored kind) texts))) Repeated in
     ap first_by_rank (append_assoc (flat_map (text_breaks kind) texts) many repeated)
     ∙ first_of_both (flat_map (text_breaks kind) texts) (many ++ repeated)
     ∙ ap (λ o. sooner o (first_by_rank (many ++ repeated))) (of_all kind texts)
-    ∙ with_length (list_any (λ text. length text == 0) texts) (list_any (is_longer kind) texts) (list_all (has_form kind) texts) (nat_lt 64 (length texts)) (are_distinct (map (kept kind) texts))
+    ∙ with_length (list_any (λ text. length text == 0) texts) (list_any (is_longer kind) texts) (list_all (has_form kind) texts) (nat_lt 64 (length texts)) (are_distinct (map (stored kind) texts))
 
 -- ---- protocols
 
@@ -115,11 +115,11 @@ protocols_steps texts = of_protocols (nat_lt 64 (length texts)) (list_all (is_ch
 
 -- the name of a header that breaks no rule is a header's, and its values break none
 pub header_parts : (header : Bool) (values : Option (List (List ℕ)))
-    → first_by_rank (broken_if (not header) Syntax ++ option_map_or (list_breaks word.FreeText) values (WrongType ∷ [])) ≡ None
-    → (header ≡ true) × (typed (list_rule word.FreeText) values ≡ None)
+    → first_by_rank (broken_if (not header) Syntax ++ option_map_or (list_breaks text_kind.FreeText) values (WrongType ∷ [])) ≡ None
+    → (header ≡ true) × (typed (list_rule text_kind.FreeText) values ≡ None)
 header_parts true None ok = cc
 header_parts true (Some texts) ok = (refl, ok)
 header_parts false values ok =
-    let values_break = option_map_or (list_breaks word.FreeText) values (WrongType ∷ []) in
+    let values_break = option_map_or (list_breaks text_kind.FreeText) values (WrongType ∷ []) in
     let none : Syntax ∷ values_break ≡ [] = nothing_broken (Syntax ∷ values_break) ok in
     cc

@@ -16,27 +16,27 @@ use Rattle.kg_row_types.specs.declared.config.SizeUnit.{SizeUnit}
 use Rattle.kg_row_types.specs.declared.route.HeaderTest.{HeaderTest}
 use Rattle.kg_field_rules.specs.Choices.{limit_by_named, size_unit_named}
 use Rattle.kg_field_tables.specs.Judging.{header_rule, is_set, judged, reference_of, texts_of}
-use Rattle.kg_field_rules.specs.TextRules.{kept}
+use Rattle.kg_field_rules.specs.TextRules.{stored}
 use Rattle.kg_field_rules.specs.Urls.{url_of}
 use Rattle.kg_field_tables.specs.declared.reference.Mention.{Mention}
 use Rattle.kg_field_tables.specs.declared.reference.Reference.{Reference}
 use Rattle.kg_field_tables.specs.declared.shape.Shape.{Shape}
 use Rattle.kg_field_tables.specs.declared.shape.Shape.TheVariants as shape
 use Rattle.kg_field_rules.specs.declared.url.Url.{Url}
-use Rattle.kg_field_rules.specs.declared.word.Word.{Word}
+use Rattle.kg_field_rules.specs.declared.text_kind.TextKind.{TextKind}
 
 -- the value of the member of this name, if it is set and breaks no rule of the shape
 abbrev pub value_at : Shape → List ℕ → Data → Option Data
 value_at shape name body =
     option_and_then (λ d. if is_set d then (if is_some (judged shape d) then None else Some d) else None) (get name body)
 
--- a text, as it is kept
-abbrev pub text_at : Word → List ℕ → Data → Option (List ℕ)
-text_at kind name body = option_map (kept kind) (option_and_then as_str (value_at (shape.Text kind) name body))
+-- a text, as it is stored
+abbrev pub text_at : TextKind → List ℕ → Data → Option (List ℕ)
+text_at kind name body = option_map (stored kind) (option_and_then as_str (value_at (shape.Text kind) name body))
 
--- the texts of a list, as they are kept: none where it isn't set
-abbrev pub texts_at : Word → List ℕ → Data → List (List ℕ)
-texts_at kind name body = option_map_or (map (kept kind)) (option_and_then texts_of (value_at (shape.Texts kind) name body)) []
+-- the texts of a list, as they are stored: none where it isn't set
+abbrev pub texts_at : TextKind → List ℕ → Data → List (List ℕ)
+texts_at kind name body = option_map_or (map (stored kind)) (option_and_then texts_of (value_at (shape.Texts kind) name body)) []
 
 -- a whole number from low to high
 abbrev pub whole_at : ℕ → ℕ → List ℕ → Data → Option ℕ

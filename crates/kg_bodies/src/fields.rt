@@ -4,13 +4,13 @@ ghost use Rattle.std.specs.Prelude.{◌≡◌, ◌+◌, ◌++◌, IfOk, IfSome, 
 ghost use Rattle.serde_json.specs.View.{members_view, view};
 ghost use Rattle.kg_row_types.specs.PluginNames.{plugin_named};
 ghost use Rattle.kg_field_tables.specs.Accepted.{AcceptsMembers};
-ghost use Rattle.kg_field_tables.specs.BrokenRules.{faults_in, faults_inside, field_faults, field_rule, named_plugin, object_rule, table_inside, told};
+ghost use Rattle.kg_field_tables.specs.BrokenRules.{violations_in, violations_inside, field_violations, field_rule, named_plugin, object_rule, table_inside, told};
 ghost use Rattle.kg_field_tables.specs.Depths.{depth_of, levels};
 ghost use Rattle.kg_field_rules.specs.Rules.{in_order, tell};
 
 use crate::judge::{is_set, judged};
-use kg_field_rules::fault::Faults;
 use kg_field_rules::rule::Rule;
+use kg_field_rules::violations::Violations;
 use kg_field_tables::constant::is_constant;
 use kg_field_tables::table::{Field, Table, field_of, table_of};
 use kg_row_types::entity::Kind;
@@ -19,16 +19,16 @@ use kg_text::{NoMemory, Text};
 use serde_json::{Map, Value};
 use std::alloc::Global;
 
-/// The faults of the fields of a body.
-pub fn field_faults(alloc: Global, kind: Kind, body: &Value) -> Result<Faults, NoMemory>
-    ensures { IfOk result (λ faults. faults ≡ in_order (field_faults kind (view body.now))) }
+/// The violations of the fields of a body.
+pub fn field_violations(alloc: Global, kind: Kind, body: &Value) -> Result<Violations, NoMemory>
+    ensures { IfOk result (λ violations. violations ≡ in_order (field_violations kind (view body.now))) }
 {
-    let mut faults = Faults::new(alloc);
+    let mut violations = Violations::new(alloc);
     if let Some(members) = body.as_object() {
         let table = table_of(kind, named_plugin(body));
-        judge_members(alloc, members, table, "", &mut faults)?;
+        judge_members(alloc, members, table, "", &mut violations)?;
     }
-    Ok(faults)
+    Ok(violations)
 }
 
 /// The plugin that a body names, if there is one of that name.
@@ -60,26 +60,26 @@ pub fn plugin_named(name: &str) -> Option<PluginName>
     }
 }
 
-/// Tells the faults of an object's members, whose paths have `front` in front.
+/// Tells the violations of an object's members, whose paths have `front` in front.
 #[cycle(judging)]
 pub fn judge_members(
     alloc: Global,
     members: &Map<String, Value>,
     table: Table,
     front: &str,
-    faults: &mut Faults,
+    violations: &mut Violations,
 ) -> Result<(), NoMemory>
-    ensures ok { OnOk result (faults.new ≡ fold tell faults.old (faults_in (members_view members.now.entries) table front.now)) }
+    ensures ok { OnOk result (violations.new ≡ fold tell violations.old (violations_in (members_view members.now.entries) table front.now)) }
 {
     for (name, value) in members.iter() {
         let field = field_of(table, name.as_str());
         let path = joined(alloc, front, name.as_str())?;
-        judge_member(alloc, value, field, path.as_str(), faults)?;
+        judge_member(alloc, value, field, path.as_str(), violations)?;
     }
     Ok(())
 }
 
-/// Tells the faults of the value of one field, and of what stands inside it.
+/// Tells the violations of the value of one field, and of what stands inside it.
 #[cycle(judging)]
 #[tactic(auto, using(crate::proofs::InsideLemmas::no_object, crate::proofs::InsideLemmas::no_table, crate::proofs::InsideLemmas::table_of_members))]
 pub fn judge_member(
@@ -87,16 +87,16 @@ pub fn judge_member(
     value: &Value,
     field: Field,
     path: &str,
-    faults: &mut Faults,
+    violations: &mut Violations,
 ) -> Result<(), NoMemory>
-    ensures ok { OnOk result (faults.new ≡ fold tell faults.old (told path.now (field_rule field (view value.now)) ++ faults_inside (view value.now) field path.now)) }
+    ensures ok { OnOk result (violations.new ≡ fold tell violations.old (told path.now (field_rule field (view value.now)) ++ violations_inside (view value.now) field path.now)) }
 {
-    tell_rule(alloc, value, field, path, faults)?;
+    tell_rule(alloc, value, field, path, violations)?;
     match table_inside(field) {
         Some(table) => match value.as_object() {
             Some(members) => {
                 let front = joined(alloc, path, ".")?;
-                judge_members(alloc, members, table, front.as_str(), faults)
+                judge_members(alloc, members, table, front.as_str(), violations)
             }
             None => Ok(()),
         },
@@ -110,12 +110,12 @@ fn tell_rule(
     value: &Value,
     field: Field,
     path: &str,
-    faults: &mut Faults,
+    violations: &mut Violations,
 ) -> Result<(), NoMemory>
-    ensures { OnOk result (faults.new ≡ fold tell faults.old (told path.now (field_rule field (view value.now)))) }
+    ensures { OnOk result (violations.new ≡ fold tell violations.old (told path.now (field_rule field (view value.now)))) }
 {
     match field_rule(alloc, field, value)? {
-        Some(rule) => faults.tell(Text::from_str(alloc, path)?, rule),
+        Some(rule) => violations.tell(Text::from_str(alloc, path)?, rule),
         None => Ok(()),
     }
 }
@@ -172,7 +172,7 @@ fn object_rule(value: &Value) -> Option<Rule>
     }
 }
 
-/// Each member of an object without faults is accepted, by itself and inside: a law, for proofs.
-pub fn members_of_a_faultless_object_are_accepted()
+/// Each member of an object without violations is accepted, by itself and inside: a law, for proofs.
+pub fn members_of_a_unbroken_object_are_accepted()
     ensures { AcceptsMembers }
 {}

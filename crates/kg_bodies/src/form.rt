@@ -2,15 +2,15 @@
 
 ghost use Rattle.std.specs.Prelude.{◌≡◌, [], IfErr, IfOk, OnOk, codes};
 ghost use Rattle.serde_json.specs.View.{view};
-ghost use Rattle.kg_field_tables.specs.BrokenRules.{field_faults};
+ghost use Rattle.kg_field_tables.specs.BrokenRules.{field_violations};
 ghost use Rattle.kg_bodies.specs.Violations.{Tells};
 ghost use Rattle.kg_bodies.specs.Settings.{id_at, reference_at};
 ghost use Rattle.kg_field_tables.specs.declared.reference.Mention.TheVariants as mention;
 ghost use Rattle.kg_bodies.specs.declared.form.FormError.TheVariants.{NoMemory as OutOfMemory};
 
-use crate::fields::field_faults;
+use crate::fields::field_violations;
 use crate::settings::{id_at, reference_at};
-use kg_field_rules::fault::Broken;
+use kg_field_rules::violations::Broken;
 use kg_field_tables::reference::{Mention, Reference};
 use kg_row_types::entity::Kind;
 use kg_row_types::id::Id;
@@ -24,7 +24,7 @@ use std::alloc::{AllocError, AllocFailed, Global};
 pub struct Form {
     kind: Kind,
     body: Value,
-    ghost valid: { field_faults kind (view body) ≡ [] },
+    ghost valid: { field_violations kind (view body) ≡ [] },
 }
 
 /// Why a body is refused.
@@ -44,12 +44,12 @@ pub enum FormError {
 pub fn read_form(alloc: Global, kind: Kind, body: &Value) -> Result<Form, FormError>
     ensures kind { IfOk result (λ form. form.kind ≡ kind) }
     ensures body { IfOk result (λ form. view form.body ≡ view body.now) }
-    ensures valid { OnOk result (field_faults kind (view body.now) ≡ []) }
-    ensures violation { IfErr result (λ e. Tells e (field_faults kind (view body.now))) }
+    ensures valid { OnOk result (field_violations kind (view body.now) ≡ []) }
+    ensures violation { IfErr result (λ e. Tells e (field_violations kind (view body.now))) }
 {
-    let faults = field_faults(alloc, kind, body)?;
-    if !faults.is_empty() {
-        return Err(FormError::Violation(faults.into_list(alloc)?));
+    let violations = field_violations(alloc, kind, body)?;
+    if !violations.is_empty() {
+        return Err(FormError::Violation(violations.into_list(alloc)?));
     }
     let body = body.clone()?;
     Ok(Form { kind, body })
@@ -66,7 +66,7 @@ impl Form {
     /// The body, as it was read. None of its fields breaks a rule.
     pub fn body(&self) -> &Value
         ensures body { result.now ≡ self.now.body }
-        ensures valid { field_faults self.now.kind (view result.now) ≡ [] }
+        ensures valid { field_violations self.now.kind (view result.now) ≡ [] }
     {
         &self.body
     }

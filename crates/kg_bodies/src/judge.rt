@@ -12,10 +12,10 @@ ghost use Rattle.kg_field_tables.specs.Judging.{by_id, by_member, by_name, by_te
 ghost use Rattle.kg_field_rules.specs.TextRules.{choice_rule, has_form, is_longer, text_rule};
 
 use crate::judge::headers::headers_rule;
-use crate::texts::{are_distinct, kept_texts, texts_of};
+use crate::texts::{are_distinct, stored_texts, texts_of};
 use kg_field_rules::rule::Rule;
+use kg_field_rules::text_kind::{Choice, TextKind};
 use kg_field_rules::text_rule::{choice_rule, has_form, is_choice, is_longer, text_rule};
-use kg_field_rules::word::{Choice, Word};
 use kg_field_tables::reference::{Mention, Reference};
 use kg_field_tables::shape::Shape;
 use kg_row_types::id::Id;
@@ -48,12 +48,12 @@ fn shape_rule(alloc: Global, shape: Shape, value: &Value) -> Result<Option<Rule>
     ensures { IfOk result (λ rule. rule ≡ shape_rule shape (view value.now)) }
 {
     match shape {
-        Shape::Text(word) => match value.as_str() {
-            Some(text) => text_rule(alloc, word, text),
+        Shape::Text(text_kind) => match value.as_str() {
+            Some(text) => text_rule(alloc, text_kind, text),
             None => Ok(Some(Rule::WrongType)),
         },
-        Shape::Texts(word) => match texts_of(alloc, value)? {
-            Some(texts) => list_rule(alloc, word, &texts),
+        Shape::Texts(text_kind) => match texts_of(alloc, value)? {
+            Some(texts) => list_rule(alloc, text_kind, &texts),
             None => Ok(Some(Rule::WrongType)),
         },
         Shape::OneOf(choice) => match value.as_str() {
@@ -93,20 +93,24 @@ fn wrong_unless(fits: bool) -> Option<Rule>
 
 /// The first rule that a list of texts breaks.
 #[tactic(auto, using(crate::proofs::ListLemmas::list_steps))]
-pub fn list_rule(alloc: Global, word: Word, texts: &List<Text>) -> Result<Option<Rule>, NoMemory>
-    ensures { IfOk result (λ rule. rule ≡ list_rule word texts.now) }
+pub fn list_rule(
+    alloc: Global,
+    text_kind: TextKind,
+    texts: &List<Text>,
+) -> Result<Option<Rule>, NoMemory>
+    ensures { IfOk result (λ rule. rule ≡ list_rule text_kind texts.now) }
 {
     if is_any_empty(texts.as_slice()) {
         return Ok(Some(Rule::Empty));
     }
-    if texts.len() > 64 || is_any_longer(word, texts.as_slice()) {
+    if texts.len() > 64 || is_any_longer(text_kind, texts.as_slice()) {
         return Ok(Some(Rule::OutOfRange));
     }
-    if !have_form(alloc, word, texts.as_slice())? {
+    if !have_form(alloc, text_kind, texts.as_slice())? {
         return Ok(Some(Rule::Syntax));
     }
-    let kept = kept_texts(alloc, word, texts.as_slice())?;
-    if are_distinct(alloc, kept.as_slice())? {
+    let stored = stored_texts(alloc, text_kind, texts.as_slice())?;
+    if are_distinct(alloc, stored.as_slice())? {
         Ok(None)
     } else {
         Ok(Some(Rule::Repeated))
@@ -119,17 +123,17 @@ fn is_any_empty(texts: &[Text]) -> bool
     texts.iter().any(|text| text.len() == 0)
 }
 
-fn is_any_longer(word: Word, texts: &[Text]) -> bool
-    ensures { result ≡ list_any (is_longer word) texts.now }
+fn is_any_longer(text_kind: TextKind, texts: &[Text]) -> bool
+    ensures { result ≡ list_any (is_longer text_kind) texts.now }
 {
-    texts.iter().any(|text| is_longer(word, text.as_str()))
+    texts.iter().any(|text| is_longer(text_kind, text.as_str()))
 }
 
-fn have_form(alloc: Global, word: Word, texts: &[Text]) -> Result<bool, NoMemory>
-    ensures { IfOk result (λ all. all ≡ list_all (has_form word) texts.now) }
+fn have_form(alloc: Global, text_kind: TextKind, texts: &[Text]) -> Result<bool, NoMemory>
+    ensures { IfOk result (λ all. all ≡ list_all (has_form text_kind) texts.now) }
 {
     for text in texts {
-        if !has_form(alloc, word, text.as_str())? {
+        if !has_form(alloc, text_kind, text.as_str())? {
             return Ok(false);
         }
     }
@@ -287,7 +291,7 @@ fn by_id(text: &str) -> Result<Reference, Rule>
 fn by_name(alloc: Global, how: Mention, text: &str) -> Result<Result<Reference, Rule>, NoMemory>
     ensures { IfOk result (λ found. found ≡ by_name how text.now) }
 {
-    match text_rule(alloc, how.word(), text)? {
+    match text_rule(alloc, how.text_kind(), text)? {
         Some(rule) => Ok(Err(rule)),
         None => Ok(Ok(Reference::Name(Text::from_str(alloc, text)?))),
     }

@@ -3,14 +3,14 @@
 ghost use Rattle.std.specs.Prelude.{◌≡◌, ◌≤◌, ◌≤ℤ◌, [], IfOk, IfSome, codes, option_map};
 ghost use Rattle.serde_json.specs.View.{view};
 ghost use Rattle.kg_row_types.specs.declared.entity.Kind.TheVariants as kind;
-ghost use Rattle.kg_field_rules.specs.declared.word.Word.TheVariants as word;
-ghost use Rattle.kg_field_tables.specs.BrokenRules.{field_faults};
+ghost use Rattle.kg_field_rules.specs.declared.text_kind.TextKind.TheVariants as text_kind;
+ghost use Rattle.kg_field_tables.specs.BrokenRules.{field_violations};
 ghost use Rattle.kg_bodies.specs.Settings.{flag_at, https_at, id_at, integer_at, limit_by_at, reference_at, size_unit_at, text_at, texts_at, url_at, value_at, whole_at};
 
 use crate::judge::{has_text, is_set, judged, reference_of};
-use crate::texts::{kept, kept_texts, texts_of};
+use crate::texts::{stored, stored_texts, texts_of};
+use kg_field_rules::text_kind::TextKind;
 use kg_field_rules::url::{Url, read_url};
-use kg_field_rules::word::Word;
 use kg_field_tables::reference::{Mention, Reference};
 use kg_field_tables::shape::Shape;
 use kg_row_types::config::{LimitBy, SizeUnit};
@@ -42,43 +42,48 @@ pub fn value_at<'v>(
     }
 }
 
-/// A text, as it is kept.
+/// A text, as it is stored.
 pub fn text_at(
     alloc: Global,
-    word: Word,
+    text_kind: TextKind,
     name: &str,
     body: &Value,
 ) -> Result<Option<Text>, NoMemory>
-    ensures { IfOk result (λ found. found ≡ text_at word name.now (view body.now)) }
+    ensures { IfOk result (λ found. found ≡ text_at text_kind name.now (view body.now)) }
 {
-    match value_at(alloc, Shape::Text(word), name, body)?.and_then(Value::as_str) {
-        Some(text) => Ok(Some(kept(alloc, word, text)?)),
+    match value_at(alloc, Shape::Text(text_kind), name, body)?.and_then(Value::as_str) {
+        Some(text) => Ok(Some(stored(alloc, text_kind, text)?)),
         None => Ok(None),
     }
 }
 
-/// The texts of a list, as they are kept: none where it isn't set.
-pub fn texts_at(alloc: Global, word: Word, name: &str, body: &Value) -> Result<List<Text>, NoMemory>
-    ensures { IfOk result (λ found. found ≡ texts_at word name.now (view body.now)) }
+/// The texts of a list, as they are stored: none where it isn't set.
+pub fn texts_at(
+    alloc: Global,
+    text_kind: TextKind,
+    name: &str,
+    body: &Value,
+) -> Result<List<Text>, NoMemory>
+    ensures { IfOk result (λ found. found ≡ texts_at text_kind name.now (view body.now)) }
 {
-    match value_at(alloc, Shape::Texts(word), name, body)? {
+    match value_at(alloc, Shape::Texts(text_kind), name, body)? {
         Some(value) => match texts_of(alloc, value)? {
-            Some(texts) => kept_texts(alloc, word, texts.as_slice()),
+            Some(texts) => stored_texts(alloc, text_kind, texts.as_slice()),
             None => Ok(List::new(alloc)),
         },
         None => Ok(List::new(alloc)),
     }
 }
 
-/// The paths of a route, as they are kept. They were judged with the body, and aren't judged again.
+/// The paths of a route, as they are stored. They were judged with the body, and aren't judged again.
 #[tactic(auto, using(crate::proofs::AcceptedLemmas::paths_accepted))]
 pub fn paths_at(alloc: Global, body: &Value) -> Result<List<Text>, NoMemory>
-    requires { field_faults kind.Route (view body.now) ≡ [] }
-    ensures { IfOk result (λ found. found ≡ texts_at word.RoutePath (codes "paths") (view body.now)) }
+    requires { field_violations kind.Route (view body.now) ≡ [] }
+    ensures { IfOk result (λ found. found ≡ texts_at text_kind.RoutePath (codes "paths") (view body.now)) }
 {
     match body.get("paths") {
         Some(value) => match texts_of(alloc, value)? {
-            Some(texts) => kept_texts(alloc, Word::RoutePath, texts.as_slice()),
+            Some(texts) => stored_texts(alloc, TextKind::RoutePath, texts.as_slice()),
             None => Ok(List::new(alloc)),
         },
         None => Ok(List::new(alloc)),

@@ -3,11 +3,11 @@
 ghost use Rattle.std.specs.Prelude.{◌≡◌, IfOk, map};
 ghost use Rattle.std.specs.Str.{str_to_ascii_lowercase};
 ghost use Rattle.serde_json.specs.View.{items_view, view};
-ghost use Rattle.kg_row_types.specs.Words.{are_distinct};
+ghost use Rattle.kg_row_types.specs.TextForms.{are_distinct};
 ghost use Rattle.kg_field_tables.specs.Judging.{each_text, texts_of};
-ghost use Rattle.kg_field_rules.specs.TextRules.{kept};
+ghost use Rattle.kg_field_rules.specs.TextRules.{stored};
 
-use kg_field_rules::word::Word;
+use kg_field_rules::text_kind::TextKind;
 use kg_row_types::id::Id;
 use kg_text::{List, NoMemory, Text};
 use serde_json::Value;
@@ -37,42 +37,46 @@ fn each_text(alloc: Global, items: &[Value]) -> Result<Option<List<Text>>, NoMem
     Ok(Some(texts))
 }
 
-/// What is kept of each text.
-pub fn kept_texts(alloc: Global, word: Word, texts: &[Text]) -> Result<List<Text>, NoMemory>
-    ensures { IfOk result (λ all. all ≡ map (kept word) texts.now) }
+/// What is stored of each text.
+pub fn stored_texts(
+    alloc: Global,
+    text_kind: TextKind,
+    texts: &[Text],
+) -> Result<List<Text>, NoMemory>
+    ensures { IfOk result (λ all. all ≡ map (stored text_kind) texts.now) }
 {
     let mut all = List::new(alloc);
     for text in texts {
-        all.push(kept(alloc, word, text.as_str())?)?;
+        all.push(stored(alloc, text_kind, text.as_str())?)?;
     }
     Ok(all)
 }
 
-/// What is kept of a text.
-pub fn kept(alloc: Global, word: Word, text: &str) -> Result<Text, NoMemory>
-    ensures { IfOk result (λ now. now ≡ kept word text.now) }
+/// What is stored of a text.
+pub fn stored(alloc: Global, text_kind: TextKind, text: &str) -> Result<Text, NoMemory>
+    ensures { IfOk result (λ now. now ≡ stored text_kind text.now) }
 {
-    match word {
-        Word::RouteHost => lower_case(alloc, text),
-        Word::Anonymous => match Id::parse(text.as_bytes()) {
+    match text_kind {
+        TextKind::RouteHost => lower_case(alloc, text),
+        TextKind::Anonymous => match Id::parse(text.as_bytes()) {
             Some(id) => id.to_text(alloc),
             None => Text::from_str(alloc, text),
         },
-        Word::Id => Text::from_str(alloc, text),
-        Word::Name => Text::from_str(alloc, text),
-        Word::FreeText => Text::from_str(alloc, text),
-        Word::LongText => Text::from_str(alloc, text),
-        Word::Username => Text::from_str(alloc, text),
-        Word::Host => Text::from_str(alloc, text),
-        Word::Path => Text::from_str(alloc, text),
-        Word::RoutePath => Text::from_str(alloc, text),
-        Word::Url => Text::from_str(alloc, text),
-        Word::Method => Text::from_str(alloc, text),
-        Word::Token => Text::from_str(alloc, text),
-        Word::AddressBlock => Text::from_str(alloc, text),
-        Word::Edit => Text::from_str(alloc, text),
-        Word::HeaderEdit => Text::from_str(alloc, text),
-        Word::HeaderRename => Text::from_str(alloc, text),
+        TextKind::Id => Text::from_str(alloc, text),
+        TextKind::Name => Text::from_str(alloc, text),
+        TextKind::FreeText => Text::from_str(alloc, text),
+        TextKind::LongText => Text::from_str(alloc, text),
+        TextKind::Username => Text::from_str(alloc, text),
+        TextKind::Host => Text::from_str(alloc, text),
+        TextKind::Path => Text::from_str(alloc, text),
+        TextKind::RoutePath => Text::from_str(alloc, text),
+        TextKind::Url => Text::from_str(alloc, text),
+        TextKind::Method => Text::from_str(alloc, text),
+        TextKind::Token => Text::from_str(alloc, text),
+        TextKind::AddressBlock => Text::from_str(alloc, text),
+        TextKind::Edit => Text::from_str(alloc, text),
+        TextKind::HeaderEdit => Text::from_str(alloc, text),
+        TextKind::HeaderRename => Text::from_str(alloc, text),
     }
 }
 

@@ -13,7 +13,7 @@ use Rattle.kg_row_changes.specs.Allowed.{is_allowed}
 use Rattle.kg_rows.specs.Decision.{and_then, decision, full, inserted, needed, proposed, unless}
 use Rattle.kg_rows.specs.References.{link_of}
 use Rattle.kg_row_values.specs.Rows.{changed, rows_after, rows_from}
-use Rattle.kg_rows.specs.Selections.{place_of}
+use Rattle.kg_rows.specs.Selections.{collection_of}
 use Rattle.kg_row_changes.specs.ValidCommands.{AreAllowed, IsValidCommand}
 use Rattle.kg_row_values.specs.declared.command.Command.{Command}
 use Rattle.kg_row_values.specs.declared.command.Command.TheVariants as command
@@ -21,7 +21,7 @@ use Rattle.kg_rows.specs.declared.draft.Draft.{Draft}
 use Rattle.kg_rows.specs.declared.draft.Draft.TheVariants.{Insert, Patch, Put, Delete}
 use Rattle.kg_rows.specs.declared.draft.Refusal.{Refusal}
 use Rattle.kg_rows.specs.declared.draft.Refusal.TheVariants.{NotFound}
-use Rattle.kg_rows.specs.declared.place.Place.{Place}
+use Rattle.kg_rows.specs.declared.collection.Collection.{Collection}
 use Rattle.kg_row_making.specs.Bases.{New}
 use Rattle.kg_declare.specs.Histories.{InsertsValidRow}
 use Rattle.kg_declare.specs.Inserting.{InsertsNewRow, IsConsistent, IsDecided, IsInsertion, decided, progress_at}
@@ -54,7 +54,7 @@ then_inserts : (made : Result Entity Refusal) (refused : Option Refusal) (done :
 then_inserts (Ok new) refused done same = unless_inserts refused new done same
 then_inserts (Err refusal) refused done same = no_command refusal done same
 
-placed_inserts : (rows : RowLists) (draft_kind : Kind) (body : Data) (id now limit : ℕ) (place : Option Place) (done : Command)
+placed_inserts : (rows : RowLists) (draft_kind : Kind) (body : Data) (id now limit : ℕ) (place : Option Collection) (done : Command)
     → needed place (λ found. inserted rows draft_kind body (New id now) (link_of found) limit) ≡ Ok done → Inserts done
 unfolding inserted
 placed_inserts rows draft_kind body id now limit (Some found) done same =
@@ -62,7 +62,7 @@ placed_inserts rows draft_kind body id now limit (Some found) done same =
 placed_inserts rows draft_kind body id now limit None done same = no_command NotFound done same
 
 pub insertion_inserts : (rows : RowLists) (draft : Draft) (limit : ℕ) (done : Command) → IsInsertion draft → decision rows draft limit ≡ Ok done → Inserts done
-insertion_inserts rows (Insert of_kind parent form id now) limit done is same = placed_inserts rows of_kind (view form.body) id now limit (place_of parent rows) done same
+insertion_inserts rows (Insert of_kind parent form id now) limit done is same = placed_inserts rows of_kind (view form.body) id now limit (collection_of parent rows) done same
 insertion_inserts rows (Patch of_kind parent select form now) limit done is same = absurd is
 insertion_inserts rows (Put of_kind parent select form id now) limit done is same = absurd is
 insertion_inserts rows (Delete of_kind parent select) limit done is same = absurd is

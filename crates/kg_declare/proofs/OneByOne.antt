@@ -12,7 +12,7 @@ use Rattle.kg_row_values.specs.Rows.{rows_after}
 use Rattle.kg_row_values.specs.declared.command.Command.{Command}
 use Rattle.kg_rows.specs.declared.draft.Refusal.{Refusal}
 use Rattle.kg_declare.specs.Inserting.{decided, start, with_row, with_rows}
-use Rattle.kg_declare.specs.Outcome.{Identified, Progress, added, all_added, answered, draws_id, extended, next, own_id, parent_of, row_faults, violated, with_ids}
+use Rattle.kg_declare.specs.Outcome.{Identified, Progress, added, all_added, answered, draws_id, extended, next, own_id, parent_of, row_violations, violated, with_ids}
 use Rattle.kg_declare.specs.RefusalBody.{refusal_response}
 use Rattle.kg_declare.proofs.HistoryLemmas.{rows_from-push}
 use Rattle.kg_declared_rows.specs.Rows.{Row}
@@ -91,30 +91,30 @@ module _ (now limit : ℕ) (draws : List (List ℕ)) where
       plain = plain;
     })
 
-    by_id : (id : Option ℕ) → own_id row ≡ id → (length (row_faults row) == 0) ≡ true → BothRefuse earlier row commands ⊎ BothAccept earlier row commands
+    by_id : (id : Option ℕ) → own_id row ≡ id → (length (row_violations row) == 0) ≡ true → BothRefuse earlier row commands ⊎ BothAccept earlier row commands
     unfolding with_row
-    by_id (Some id) named faultless =
-        let draws_none : draws_id row ≡ false = rw (faultless, named) refl in
+    by_id (Some id) named unbroken =
+        let draws_none : draws_id row ≡ false = rw (unbroken, named) refl in
         let same = sym (count-no draws_id earlier row draws_none) in
         by_answer (count_by draws_id earlier) (insertion_with id) same
-        (rw (faultless, named) refl) (rw (faultless, named) refl)
+        (rw (unbroken, named) refl) (rw (unbroken, named) refl)
         (rw named (ap (λ n. drop n draws) same))
-    by_id None named faultless =
-        let draws_one : draws_id row ≡ true = rw (faultless, named) refl in
+    by_id None named unbroken =
+        let draws_one : draws_id row ≡ true = rw (unbroken, named) refl in
         let more = sym (count-yes draws_id earlier row draws_one) in
         let drawn = get_or draws (count_by draws_id earlier) [] in
         by_answer (suc (count_by draws_id earlier)) (insertion_with (drawn_id drawn)) more
-        (rw (faultless, named) refl) (rw (faultless, named, get_or-drop (count_by draws_id earlier) draws) refl)
+        (rw (unbroken, named) refl) (rw (unbroken, named, get_or-drop (count_by draws_id earlier) draws) refl)
         (rw named (drop-next (count_by draws_id earlier) draws ∙ ap (λ n. drop n draws) more))
 
-    by_faults : (faultless : Bool) → (length (row_faults row) == 0) ≡ faultless → BothRefuse earlier row commands ⊎ BothAccept earlier row commands
+    by_violations : (unbroken : Bool) → (length (row_violations row) == 0) ≡ unbroken → BothRefuse earlier row commands ⊎ BothAccept earlier row commands
     unfolding with_row
-    by_faults true is = by_id (own_id row) refl is
-    by_faults false is =
+    by_violations true is = by_id (own_id row) refl is
+    by_violations false is =
         let draws_none : draws_id row ≡ false = rw is refl in
         inl (record {
-          response = (violated (row_faults row) 0).response;
-          counted = rw is (ap (λ drawn. Err (violated (row_faults row) drawn)) (sym (count-no draws_id earlier row draws_none)));
+          response = (violated (row_violations row) 0).response;
+          counted = rw is (ap (λ drawn. Err (violated (row_violations row) drawn)) (sym (count-no draws_id earlier row draws_none)));
           plain = rw is refl;
         })
 
@@ -124,7 +124,7 @@ module _ (now limit : ℕ) (draws : List (List ℕ)) where
   go_on : (earlier rows : List Row) (commands : List Command) → length commands ≡ length earlier
       → with_rows draws now limit rows (at earlier commands) ≡ answered (earlier ++ rows) (all_added now limit (with_ids (left earlier) rows) commands)
   go_on earlier [] commands same = ap (λ rows. Ok (record { rows = rows_after commands; commands = commands; drawn = count_by draws_id rows })) (sym (append-nil earlier))
-  go_on earlier (row ∷ rows) commands same = by_step (by_faults earlier row commands (length (row_faults row) == 0) refl) (λ command. go_on (earlier ++ row ∷ []) rows (commands ++ command ∷ []) (length_push commands command ∙ ap (λ n. n + 1) same ∙ sym (length_push earlier row)))
+  go_on earlier (row ∷ rows) commands same = by_step (by_violations earlier row commands (length (row_violations row) == 0) refl) (λ command. go_on (earlier ++ row ∷ []) rows (commands ++ command ∷ []) (length_push commands command ∙ ap (λ n. n + 1) same ∙ sym (length_push earlier row)))
     where
       tail : List (List ℕ)
       tail = cond (is_some (own_id row)) (left earlier) (drop 1 (left earlier))

@@ -10,12 +10,12 @@ use Rattle.kg_rows.specs.declared.draft.DecideError.{DecideError}
 use Rattle.kg_rows.specs.declared.draft.DecideError.TheVariants as decide_error
 use Rattle.kg_rows.specs.declared.draft.Refusal.{Refusal}
 use Rattle.kg_field_rules.proofs.RuleLemmas.{in_order_none}
-use Rattle.kg_field_rules.specs.Rules.{Fault, in_order, tell}
+use Rattle.kg_field_rules.specs.Rules.{BrokenRule, in_order, tell}
 use Rattle.kg_bodies.specs.Settings.{id_at}
 use Rattle.kg_field_rules.specs.declared.rule.Rule.TheVariants.{WrongType}
-use Rattle.kg_declared_rows.specs.Faults.{own_faults}
-use Rattle.kg_declare.specs.Inserting.{IsConsistent, IsIdOf, IsUnread, Prepares, Refuses, TellsFaults, TellsRefusal, decided, identified, inserted, progress_at, start, with_row, with_rows}
-use Rattle.kg_declare.specs.Outcome.{Progress, Refused, all_added, answered, declaration_of, declared, next, outcome, row_faults, unread, with_ids, wrong_faults}
+use Rattle.kg_declared_rows.specs.Violations.{own_violations}
+use Rattle.kg_declare.specs.Inserting.{IsConsistent, IsIdOf, IsUnread, Prepares, Refuses, TellsViolations, TellsRefusal, decided, identified, inserted, progress_at, start, with_row, with_rows}
+use Rattle.kg_declare.specs.Outcome.{Progress, Refused, all_added, answered, declaration_of, declared, next, outcome, row_violations, unread, with_ids, wrong_violations}
 use Rattle.kg_declared_rows.specs.Rows.{Row}
 use Rattle.kg_declare.specs.Steps.{IsRefusedAt, progress_after}
 use Rattle.kg_declare.specs.declared.error.DeclareError.{DeclareError}
@@ -23,32 +23,32 @@ use Rattle.kg_declare.specs.declared.error.DeclareError.TheVariants as error
 use Rattle.kg_declare.specs.declared.progress.Made.{Made}
 use Rattle.kg_declare.proofs.OneByOne.{one_by_one}
 
--- ---- faults
+-- ---- violations
 
 -- what breaks no rule in the end broke none
-pub none_told : (faults : List Fault) → in_order faults ≡ [] → faults ≡ []
+pub none_told : (violations : List BrokenRule) → in_order violations ≡ [] → violations ≡ []
 none_told = in_order_none
 
-cons_is_some : (fault : Fault) (faults : List Fault) → fault ∷ faults ≢ []
-cons_is_some fault faults = λ same. let none : suc (length faults) ≡ 0 = ap length same in absurd (omega arith)
+cons_is_some : (violation : BrokenRule) (violations : List BrokenRule) → violation ∷ violations ≢ []
+cons_is_some violation violations = λ same. let none : suc (length violations) ≡ 0 = ap length same in absurd (omega arith)
 
-pub wrong_is_a_fault : (faults : List Fault) (wrong : List (List ℕ)) → 0 < length wrong → faults ++ wrong_faults wrong ≢ []
-wrong_is_a_fault faults [] some = absurd (omega arith)
-wrong_is_a_fault [] (name ∷ wrong) some = λ same. cons_is_some (name, WrongType) (wrong_faults wrong) same
-wrong_is_a_fault (fault ∷ faults) (name ∷ wrong) some = λ same. cons_is_some fault (faults ++ wrong_faults (name ∷ wrong)) same
+pub wrong_is_a_violation : (violations : List BrokenRule) (wrong : List (List ℕ)) → 0 < length wrong → violations ++ wrong_violations wrong ≢ []
+wrong_is_a_violation violations [] some = absurd (omega arith)
+wrong_is_a_violation [] (name ∷ wrong) some = λ same. cons_is_some (name, WrongType) (wrong_violations wrong) same
+wrong_is_a_violation (violation ∷ violations) (name ∷ wrong) some = λ same. cons_is_some violation (violations ++ wrong_violations (name ∷ wrong)) same
 
-pub no_wrong : (faults : List Fault) → faults ++ wrong_faults [] ≡ faults
-no_wrong faults = append-nil faults
+pub no_wrong : (violations : List BrokenRule) → violations ++ wrong_violations [] ≡ violations
+no_wrong violations = append-nil violations
 
--- faults that are told behind those in order are in order with them
-pub told_behind : (own behind told : List Fault) → told ≡ fold tell (in_order own) behind → told ≡ in_order (own ++ behind)
+-- violations that are told behind those in order are in order with them
+pub told_behind : (own behind told : List BrokenRule) → told ≡ fold tell (in_order own) behind → told ≡ in_order (own ++ behind)
 told_behind own behind told is = is ∙ sym (fold-append tell [] own behind)
 
 -- ---- one row
 
-no_faults : (faults : List Fault) → faults ≢ [] → (length faults == 0) ≡ false
-no_faults [] some = absurd (some refl)
-no_faults (fault ∷ faults) some = grind (arith, nat_tests)
+no_violations : (violations : List BrokenRule) → violations ≢ [] → (length violations == 0) ≡ false
+no_violations [] some = absurd (some refl)
+no_violations (violation ∷ violations) some = grind (arith, nat_tests)
 
 -- the id behind those that were drawn before
 next_id : (front more : List (List ℕ)) (bytes : List ℕ) → get_or (front ++ bytes ∷ [] ++ more) (length front) [] ≡ bytes
@@ -72,19 +72,19 @@ identified_as front drawn more now limit row old None id is =
     let n : length front + length drawn ≡ suc (length front) = ap (λ ids. length front + length ids) is.1 ∙ one_more (length front) in
     rw (n, is.1, is.2, next_id front more bytes) refl
 
--- a row without faults is inserted with its id
-pub row_step : (front drawn more : List (List ℕ)) (now limit : ℕ) (row : Row) (old : Made) (id : ℕ) → row_faults row ≡ []
+-- a row without violations is inserted with its id
+pub row_step : (front drawn more : List (List ℕ)) (now limit : ℕ) (row : Row) (old : Made) (id : ℕ) → row_violations row ≡ []
     → IsIdOf (id_at (object row.members)) drawn id
     → with_row (front ++ drawn ++ more) now limit row (progress_at old (length front))
     ≡ inserted now limit row id (length front + length drawn) (progress_at old (length front))
 unfolding with_row
 row_step front drawn more now limit row old id none is = rw none (identified_as front drawn more now limit row old (id_at (object row.members)) id is)
 
--- a row with faults is refused
-pub row_refused : (draws : List (List ℕ)) (now limit : ℕ) (row : Row) (progress : Progress) (e : DeclareError) → TellsFaults e (row_faults row)
+-- a row with violations is refused
+pub row_refused : (draws : List (List ℕ)) (now limit : ℕ) (row : Row) (progress : Progress) (e : DeclareError) → TellsViolations e (row_violations row)
     → IsRefusedAt e (with_row draws now limit row progress) progress.drawn
 unfolding with_row
-row_refused draws now limit row progress (error.Refused response) told = rw (no_faults (row_faults row) told.0, told.1) refl
+row_refused draws now limit row progress (error.Refused response) told = rw (no_violations (row_violations row) told.0, told.1) refl
 row_refused draws now limit row progress error.NoMemory told = tt
 
 -- what is refused of a draft
@@ -138,22 +138,22 @@ unfolding outcome unread
 unread_refused line now limit draws (error.Refused response) is = rw (is.0, is.1) refl
 unread_refused line now limit draws error.NoMemory is = tt
 
--- a declaration with faults of its own is refused
-pub faulty_refused : (line : List ℕ) (declaration : Members) (now limit : ℕ) (draws : List (List ℕ)) (e : DeclareError) → declaration_of line ≡ Some declaration
-    → TellsFaults e (own_faults declaration) → IsRefusedAt e (outcome line now limit draws) 0
+-- a declaration with violations of its own is refused
+pub broken_refused : (line : List ℕ) (declaration : Members) (now limit : ℕ) (draws : List (List ℕ)) (e : DeclareError) → declaration_of line ≡ Some declaration
+    → TellsViolations e (own_violations declaration) → IsRefusedAt e (outcome line now limit draws) 0
 unfolding outcome declared
-faulty_refused line declaration now limit draws (error.Refused response) read told = rw (read, no_faults (own_faults declaration) told.0, told.1) refl
-faulty_refused line declaration now limit draws error.NoMemory read told = tt
+broken_refused line declaration now limit draws (error.Refused response) read told = rw (read, no_violations (own_violations declaration) told.0, told.1) refl
+broken_refused line declaration now limit draws error.NoMemory read told = tt
 
 -- another is what becomes of its rows
-pub faultless_inserted : (line : List ℕ) (rows : List Row) (now limit : ℕ) (draws : List (List ℕ)) → Prepares line rows
+pub unbroken_inserted : (line : List ℕ) (rows : List Row) (now limit : ℕ) (draws : List (List ℕ)) → Prepares line rows
     → outcome line now limit draws ≡ with_rows draws now limit rows start
 unfolding outcome declared
-faultless_inserted line rows now limit draws ready =
+unbroken_inserted line rows now limit draws ready =
     declared_rows ∙ sym (one_by_one now limit draws rows)
   where
     declared_rows : outcome line now limit draws ≡ answered rows (all_added now limit (with_ids draws rows) [])
-    declared_rows = rw (ready.read, ready.faultless, ready.rows) refl
+    declared_rows = rw (ready.read, ready.unbroken, ready.rows) refl
 
 -- beginning with no rows
 pub from_start : (draws : List (List ℕ)) (now limit : ℕ) (rows : List Row) (old : Made) (answer : Result Progress Refused) → progress_at old 0 ≡ start

@@ -4,9 +4,9 @@ use Rattle.std.specs.Cmp.Lexicographic.{slice_cmp}
 use Rattle.std.specs.Ordering.{nat_cmp, match_ordering}
 use Rattle.serde_json.specs.Data.{Data, Members, no_members, member, put, string}
 use Rattle.serde_json.specs.Written.{members_have_float, has_float}
-use Rattle.kg_field_rules.specs.Rules.{rule_word}
-use Rattle.kg_field_rules.specs.declared.fault.Broken.{Broken}
-use Rattle.kg_declare.specs.RefusalBody.{with_word, words_of}
+use Rattle.kg_field_rules.specs.Rules.{rule_text}
+use Rattle.kg_field_rules.specs.declared.violations.Broken.{Broken}
+use Rattle.kg_declare.specs.RefusalBody.{with_rule, rules_of}
 
 second : (a b : Bool) → (a || b) ≡ false → b ≡ false
 second true b wrong = absurd (true≢false wrong)
@@ -27,10 +27,10 @@ put_text k w no_members none = refl
 put_text k w (member l e ms) none =
     put_at (slice_cmp nat_cmp k l) k l w e ms none (put_text k w ms (second (has_float e) (members_have_float ms) none))
 
-words_after : (fields : Members) (broken : List Broken) → members_have_float fields ≡ false → members_have_float (fold with_word fields broken) ≡ false
-words_after fields [] none = none
-words_after fields (fault ∷ broken) none =
-    words_after (with_word fields fault) broken (put_text fault.path (rule_word fault.rule) fields none)
+rules_after : (fields : Members) (broken : List Broken) → members_have_float fields ≡ false → members_have_float (fold with_rule fields broken) ≡ false
+rules_after fields [] none = none
+rules_after fields (violation ∷ broken) none =
+    rules_after (with_rule fields violation) broken (put_text violation.path (rule_text violation.rule) fields none)
 
-pub words_have_no_float : (broken : List Broken) → members_have_float (words_of broken) ≡ false
-words_have_no_float broken = words_after no_members broken refl
+pub words_have_no_float : (broken : List Broken) → members_have_float (rules_of broken) ≡ false
+words_have_no_float broken = rules_after no_members broken refl

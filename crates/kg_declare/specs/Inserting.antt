@@ -7,7 +7,7 @@ use Rattle.kg_row_types.specs.Ids.{drawn_id}
 use Rattle.kg_row_types.specs.RowChanges.{has_row}
 use Rattle.kg_row_types.specs.RowLists.{RowLists, no_rows}
 use Rattle.kg_row_types.specs.ValidRows.{AreValidRows}
-use Rattle.kg_field_rules.specs.Rules.{Fault}
+use Rattle.kg_field_rules.specs.Rules.{BrokenRule}
 use Rattle.kg_row_changes.specs.Allowed.{is_allowed}
 use Rattle.kg_row_changes.specs.ValidCommands.{AreAllowed, IsValidCommand}
 use Rattle.kg_row_values.specs.Rows.{changed, rows_after}
@@ -20,13 +20,13 @@ use Rattle.kg_rows.specs.declared.draft.Draft.{Draft}
 use Rattle.kg_rows.specs.declared.draft.Draft.TheVariants as draft
 use Rattle.kg_rows.specs.declared.draft.Refusal.{Refusal}
 use Rattle.kg_declare.specs.Histories.{InsertsValidRow}
-use Rattle.kg_declare.specs.Outcome.{Progress, Refused, declaration_of, next, own_id, parent_of, row_faults, unread, violated}
+use Rattle.kg_declare.specs.Outcome.{Progress, Refused, declaration_of, next, own_id, parent_of, row_violations, unread, violated}
 use Rattle.kg_declare.specs.RefusalBody.{refusal_response}
 use Rattle.kg_declare.specs.Steps.{IsRefusedAt}
 use Rattle.kg_declare.specs.declared.error.DeclareError.{DeclareError}
 use Rattle.kg_declare.specs.declared.error.DeclareError.TheVariants as error
 use Rattle.kg_declare.specs.declared.progress.Made.{Made}
-use Rattle.kg_declared_rows.specs.Faults.{own_faults}
+use Rattle.kg_declared_rows.specs.Violations.{own_violations}
 use Rattle.kg_declared_rows.specs.Rows.{Row, rows_of}
 
 -- the row stands under one of a kind under which its own kind can stand, if it stands under one
@@ -58,9 +58,9 @@ identified draws now limit row None progress =
 -- its fields are judged before an id is drawn for it
 unfoldable pub with_row : List (List ℕ) → ℕ → ℕ → Row → Progress → Result Progress Refused
 with_row draws now limit row progress =
-    if length (row_faults row) == 0
+    if length (row_violations row) == 0
     then identified draws now limit row (own_id row) progress
-    else Err (violated (row_faults row) progress.drawn)
+    else Err (violated (row_violations row) progress.drawn)
 
 abbrev pub with_rows : List (List ℕ) → ℕ → ℕ → List Row → Progress → Result Progress Refused
 with_rows draws now limit [] progress = Ok progress
@@ -112,10 +112,10 @@ pub record Identifies {S : Type 0} (draws : S → S → List (List ℕ) → Type
   pub moved : draws before now drawn
   pub is : IsIdOf set drawn id
 
--- the faults are there, and the reply tells them
-abbrev pub TellsFaults : DeclareError → List Fault → Type 0
-TellsFaults (error.Refused response) faults = (faults ≢ []) × (response ≡ (violated faults 0).response)
-TellsFaults error.NoMemory faults = ⊤
+-- the violations are there, and the reply tells them
+abbrev pub TellsViolations : DeclareError → List BrokenRule → Type 0
+TellsViolations (error.Refused response) violations = (violations ≢ []) × (response ≡ (violated violations 0).response)
+TellsViolations error.NoMemory violations = ⊤
 
 -- the line was no declaration
 abbrev pub IsUnread : DeclareError → Option Members → Type 0
@@ -126,7 +126,7 @@ IsUnread error.NoMemory declaration = ⊤
 pub record Prepares (line : List ℕ) (inserted : List Row) : Type 0 where
   pub members : Members
   pub read : declaration_of line ≡ Some members
-  pub faultless : own_faults members ≡ []
+  pub unbroken : own_violations members ≡ []
   pub rows : rows_of members ≡ inserted
 
 -- ---- what the commands are, on the way

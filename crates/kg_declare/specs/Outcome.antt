@@ -20,11 +20,11 @@ use Rattle.kg_row_values.specs.declared.command.Command.TheVariants.{Insert, Upd
 use Rattle.kg_rows.specs.declared.draft.Refusal.{Refusal}
 use Rattle.kg_rows.specs.declared.select.Parent.{Parent}
 use Rattle.kg_rows.specs.declared.select.Select.TheVariants.{Id}
-use Rattle.kg_field_tables.specs.BrokenRules.{field_faults}
-use Rattle.kg_field_rules.specs.Rules.{Fault, in_order, listed}
+use Rattle.kg_field_tables.specs.BrokenRules.{field_violations}
+use Rattle.kg_field_rules.specs.Rules.{BrokenRule, in_order, listed}
 use Rattle.kg_bodies.specs.Settings.{id_at}
 use Rattle.kg_field_rules.specs.declared.rule.Rule.TheVariants.{WrongType}
-use Rattle.kg_declared_rows.specs.Faults.{own_faults}
+use Rattle.kg_declared_rows.specs.Violations.{own_violations}
 use Rattle.kg_declare.specs.RefusalBody.{refusal_response, violation_response}
 use Rattle.kg_declared_rows.specs.Rows.{Row, rows_of}
 use Rattle.kg_declared_rows.specs.declared.declared.Above.{Above}
@@ -41,15 +41,15 @@ declaration_of line = if length line == 0 then Some no_members else option_and_t
 
 -- ---- one row
 
--- the faults of a row's fields, and its nested lists that aren't lists of objects
-abbrev pub wrong_faults : List (List ℕ) → List Fault
-wrong_faults wrong = map (λ name. (name, WrongType)) wrong
+-- the violations of a row's fields, and its nested lists that aren't lists of objects
+abbrev pub wrong_violations : List (List ℕ) → List BrokenRule
+wrong_violations wrong = map (λ name. (name, WrongType)) wrong
 
-abbrev pub body_faults : Kind → Data → List (List ℕ) → List Fault
-body_faults of_kind body wrong = field_faults of_kind body ++ wrong_faults wrong
+abbrev pub body_violations : Kind → Data → List (List ℕ) → List BrokenRule
+body_violations of_kind body wrong = field_violations of_kind body ++ wrong_violations wrong
 
-unfoldable pub row_faults : Row → List Fault
-row_faults row = body_faults row.kind (object row.members) row.wrong
+unfoldable pub row_violations : Row → List BrokenRule
+row_violations row = body_violations row.kind (object row.members) row.wrong
 
 -- ---- the rows with their ids
 
@@ -98,9 +98,9 @@ extended commands (Err refusal) = Err (record { response = refusal_response refu
 -- the commands with that of the next row, where its fields are accepted and so is its insertion
 abbrev pub added : ℕ → ℕ → Identified → List Command → Result (List Command) RefusedRow
 added now limit one commands =
-    if length (row_faults one.row) == 0
+    if length (row_violations one.row) == 0
     then extended commands (insertion (rows_after commands) one.row.kind (parent_of commands one.row.parent) (object one.row.members) one.id now limit)
-    else Err (record { response = violation_response (listed (in_order (row_faults one.row))); number = length commands })
+    else Err (record { response = violation_response (listed (in_order (row_violations one.row))); number = length commands })
 
 -- ---- all rows
 
@@ -116,7 +116,7 @@ all_added now limit (first ∷ rest) commands = next (all_added now limit rest) 
 
 -- an id is drawn for a row that names none, once its fields are accepted
 abbrev pub draws_id : Row → Bool
-draws_id row = length (row_faults row) == 0 && is_none (own_id row)
+draws_id row = length (row_violations row) == 0 && is_none (own_id row)
 
 -- ---- the declaration
 
@@ -131,8 +131,8 @@ pub record Refused : Type 0 where
   pub response : Response
   pub drawn : ℕ
 
-abbrev pub violated : List Fault → ℕ → Refused
-violated faults drawn = record { response = violation_response (listed (in_order faults)); drawn = drawn }
+abbrev pub violated : List BrokenRule → ℕ → Refused
+violated violations drawn = record { response = violation_response (listed (in_order violations)); drawn = drawn }
 
 -- of these rows ids are drawn for all, or for those up to the refused one
 abbrev pub answered : List Row → Result (List Command) RefusedRow → Result Progress Refused
@@ -144,9 +144,9 @@ answered rows (Err refused) =
 -- at the time `now`, in milliseconds, with at most `limit` rows of a kind
 unfoldable pub declared : List (List ℕ) → ℕ → ℕ → Members → Result Progress Refused
 declared draws now limit declaration =
-    if length (own_faults declaration) == 0
+    if length (own_violations declaration) == 0
     then answered (rows_of declaration) (all_added now limit (with_ids draws (rows_of declaration)) [])
-    else Err (violated (own_faults declaration) 0)
+    else Err (violated (own_violations declaration) 0)
 
 unfoldable pub unread : Refused
 unread = record { response = gateway_message 400 (codes "Cannot parse JSON body"); drawn = 0 }

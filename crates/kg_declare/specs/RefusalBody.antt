@@ -9,17 +9,17 @@ use Rattle.kg_message.specs.HeaderLists.{content_type}
 use Rattle.kg_message.specs.declared.response.Response.{Response}
 use Rattle.kg_rows.specs.declared.draft.Refusal.{Refusal}
 use Rattle.kg_rows.specs.declared.draft.Refusal.TheVariants.{NotFound, Violation, Foreign, Unique, Full, HistoryFull}
-use Rattle.kg_field_rules.specs.Rules.{rule_word}
-use Rattle.kg_field_rules.specs.declared.fault.Broken.{Broken}
+use Rattle.kg_field_rules.specs.Rules.{rule_text}
+use Rattle.kg_field_rules.specs.declared.violations.Broken.{Broken}
 
 -- ---- the fields of a refusal
 
 -- a broken path with the word of its rule; the members of an object are in byte order of their names
-abbrev pub with_word : Members → Broken → Members
-with_word fields broken = put broken.path (string (rule_word broken.rule)) fields
+abbrev pub with_rule : Members → Broken → Members
+with_rule fields broken = put broken.path (string (rule_text broken.rule)) fields
 
-abbrev pub words_of : List Broken → Members
-words_of broken = fold with_word no_members broken
+abbrev pub rules_of : List Broken → Members
+rules_of broken = fold with_rule no_members broken
 
 abbrev pub one_word : List ℕ → List ℕ → Members
 one_word field word = member field (string word) no_members
@@ -44,7 +44,7 @@ coded_response status code fields text = record {
 }
 
 unfoldable pub violation_response : List Broken → Response
-violation_response broken = coded_response 400 2 (words_of broken) (codes "schema violation")
+violation_response broken = coded_response 400 2 (rules_of broken) (codes "schema violation")
 
 unfoldable pub refusal_response : Refusal → Response
 refusal_response NotFound = gateway_message 404 (codes "Not found")

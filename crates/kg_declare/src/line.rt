@@ -3,9 +3,9 @@
 ghost use Rattle.std.specs.Prelude.{◌≡◌, ℕ, List as Sequence, [], IfErr, IfOk, OnOk, Some, option_map};
 ghost use Rattle.serde_json.specs.Find.{as_object};
 ghost use Rattle.serde_json.specs.View.{members_view, view};
-ghost use Rattle.kg_declared_rows.specs.Faults.{own_faults};
+ghost use Rattle.kg_declared_rows.specs.Violations.{own_violations};
 ghost use Rattle.kg_declare.specs.Histories.{AreInsertions};
-ghost use Rattle.kg_declare.specs.Inserting.{IsConsistent, IsUnread, Prepares, TellsFaults};
+ghost use Rattle.kg_declare.specs.Inserting.{IsConsistent, IsUnread, Prepares, TellsViolations};
 ghost use Rattle.kg_declare.specs.Outcome.{declaration_of, json_of, outcome};
 ghost use Rattle.kg_declared_rows.specs.SeenRows.{seen_all};
 ghost use Rattle.kg_declare.specs.Steps.{Declares, IsRefusedAt};
@@ -13,7 +13,7 @@ ghost use Rattle.kg_declare.specs.Steps.{Declares, IsRefusedAt};
 use crate::error::DeclareError;
 use crate::progress::{Made, insert_rows};
 use crate::refusal::violation_response;
-use kg_declared_rows::{Declared, own_faults, rows_of};
+use kg_declared_rows::{Declared, own_violations, rows_of};
 use kg_message::message;
 use kg_outside::Ids;
 use kg_rows::{Command, allowed_commands_make_valid_rows};
@@ -89,14 +89,14 @@ fn prepared(alloc: Global, line: &[u8]) -> Result<Vec<Declared>, DeclareError>
 // The declaration's own members break no rule.
 #[tactic(auto, using(crate::proofs::ProgressLemmas::none_told))]
 fn judge(alloc: Global, declaration: &Map<String, Value>) -> Result<(), DeclareError>
-    ensures valid { OnOk result (own_faults (members_view declaration.now.entries) ≡ []) }
-    ensures violation { IfErr result (λ e. TellsFaults e (own_faults (members_view declaration.now.entries))) }
+    ensures valid { OnOk result (own_violations (members_view declaration.now.entries) ≡ []) }
+    ensures violation { IfErr result (λ e. TellsViolations e (own_violations (members_view declaration.now.entries))) }
 {
-    let faults = own_faults(alloc, declaration)?;
-    if faults.is_empty() {
+    let violations = own_violations(alloc, declaration)?;
+    if violations.is_empty() {
         return Ok(());
     }
-    let broken = faults.into_list(alloc)?;
+    let broken = violations.into_list(alloc)?;
     Err(DeclareError::Refused(violation_response(alloc, broken.as_slice())?))
 }
 

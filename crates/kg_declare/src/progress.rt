@@ -7,8 +7,8 @@ ghost use Rattle.kg_rows.specs.Decision.{IsProper, decision};
 ghost use Rattle.kg_row_values.specs.Rows.{changed};
 ghost use Rattle.kg_field_rules.specs.Rules.{tell};
 ghost use Rattle.kg_bodies.specs.Settings.{id_at};
-ghost use Rattle.kg_declare.specs.Inserting.{Identifies, InsertsNewRow, IsConsistent, IsDecided, IsInsertion, Leaves, Refuses, Stands, Steps, StepsFromStart, TellsFaults, TellsRefusal, decided, progress_at, start, with_row, with_rows};
-ghost use Rattle.kg_declare.specs.Outcome.{body_faults, inserted_id, parent_at, parent_of, row_faults, wrong_faults};
+ghost use Rattle.kg_declare.specs.Inserting.{Identifies, InsertsNewRow, IsConsistent, IsDecided, IsInsertion, Leaves, Refuses, Stands, Steps, StepsFromStart, TellsViolations, TellsRefusal, decided, progress_at, start, with_row, with_rows};
+ghost use Rattle.kg_declare.specs.Outcome.{body_violations, inserted_id, parent_at, parent_of, row_violations, wrong_violations};
 ghost use Rattle.kg_declared_rows.specs.SeenRows.{seen, seen_all};
 
 use crate::error::DeclareError;
@@ -19,7 +19,7 @@ use kg_outside::Ids;
 use kg_rows::{
     Command, DecideError, Draft, Parent, Select, allowed_commands_make_valid_rows, decide,
 };
-use kg_schema::{Faults, Form, FormError, Rule, field_faults, read_form};
+use kg_schema::{Form, FormError, Rule, Violations, field_violations, read_form};
 use kg_text::{List, NoMemory, Text};
 use serde_json::Value;
 use std::alloc::Global;
@@ -181,12 +181,12 @@ fn id_of<I: Ids>(form: &Form, ids: &mut I) -> Id
 }
 
 // The row's body, if it breaks no rule of a field.
-#[tactic(auto, unfolding(crate::specs::Outcome::row_faults))]
+#[tactic(auto, unfolding(crate::specs::Outcome::row_violations))]
 fn form_of(alloc: Global, row: Declared) -> Result<Form, DeclareError>
     ensures kind { IfOk result (λ form. form.kind ≡ row.kind) }
     ensures body { IfOk result (λ form. view form.body ≡ object (members_view row.members.entries)) }
-    ensures valid { OnOk result (row_faults (seen row) ≡ []) }
-    ensures violation { IfErr result (λ e. TellsFaults e (row_faults (seen row))) }
+    ensures valid { OnOk result (row_violations (seen row) ≡ []) }
+    ensures violation { IfErr result (λ e. TellsViolations e (row_violations (seen row))) }
 {
     let Declared {
         kind,
@@ -205,8 +205,8 @@ fn form_of(alloc: Global, row: Declared) -> Result<Form, DeclareError>
 fn judged(alloc: Global, kind: Kind, body: &Value, wrong: &[&str]) -> Result<Form, DeclareError>
     ensures kind { IfOk result (λ form. form.kind ≡ kind) }
     ensures body { IfOk result (λ form. view form.body ≡ view body.now) }
-    ensures valid { OnOk result (body_faults kind (view body.now) (map (λ name. name.now) wrong.now) ≡ []) }
-    ensures violation { IfErr result (λ e. TellsFaults e (body_faults kind (view body.now) (map (λ name. name.now) wrong.now))) }
+    ensures valid { OnOk result (body_violations kind (view body.now) (map (λ name. name.now) wrong.now) ≡ []) }
+    ensures violation { IfErr result (λ e. TellsViolations e (body_violations kind (view body.now) (map (λ name. name.now) wrong.now))) }
 {
     if !wrong.is_empty() {
         return Err(told(alloc, kind, body, wrong)?);
@@ -224,19 +224,19 @@ fn judged(alloc: Global, kind: Kind, body: &Value, wrong: &[&str]) -> Result<For
 // The refusal of a body some of whose nested lists aren't lists of objects.
 fn told(alloc: Global, kind: Kind, body: &Value, wrong: &[&str]) -> Result<DeclareError, NoMemory>
     requires { 0 < length wrong.now }
-    ensures { IfOk result (λ e. TellsFaults e (body_faults kind (view body.now) (map (λ name. name.now) wrong.now))) }
+    ensures { IfOk result (λ e. TellsViolations e (body_violations kind (view body.now) (map (λ name. name.now) wrong.now))) }
 {
-    let mut faults = field_faults(alloc, kind, body)?;
-    tell_wrong(alloc, wrong, &mut faults)?;
-    let broken = faults.into_list(alloc)?;
+    let mut violations = field_violations(alloc, kind, body)?;
+    tell_wrong(alloc, wrong, &mut violations)?;
+    let broken = violations.into_list(alloc)?;
     Ok(DeclareError::Refused(violation_response(alloc, broken.as_slice())?))
 }
 
-fn tell_wrong(alloc: Global, wrong: &[&str], faults: &mut Faults) -> Result<(), NoMemory>
-    ensures { OnOk result (faults.new ≡ fold tell faults.old (wrong_faults (map (λ name. name.now) wrong.now))) }
+fn tell_wrong(alloc: Global, wrong: &[&str], violations: &mut Violations) -> Result<(), NoMemory>
+    ensures { OnOk result (violations.new ≡ fold tell violations.old (wrong_violations (map (λ name. name.now) wrong.now))) }
 {
     for name in wrong {
-        faults.tell(Text::from_str(alloc, name)?, Rule::WrongType)?;
+        violations.tell(Text::from_str(alloc, name)?, Rule::WrongType)?;
     }
     Ok(())
 }

@@ -4,7 +4,7 @@ ghost use Rattle.std.specs.Prelude.{◌≡◌, IfOk, false};
 ghost use Rattle.serde_json.specs.Data.{string};
 ghost use Rattle.serde_json.specs.View.{members_view, view};
 ghost use Rattle.serde_json.specs.Written.{compact_text, has_float, members_have_float};
-ghost use Rattle.kg_declare.specs.RefusalBody.{coded_response, one_word, presence_word, refusal_object, refusal_response, violation_response, words_of};
+ghost use Rattle.kg_declare.specs.RefusalBody.{coded_response, one_word, presence_word, refusal_object, refusal_response, violation_response, rules_of};
 
 use kg_message::{Headers, Response, message};
 use kg_rows::Refusal;
@@ -44,7 +44,7 @@ pub fn refusal_response(alloc: Global, refusal: &Refusal) -> Result<Response, No
 pub fn violation_response(alloc: Global, broken: &[Broken]) -> Result<Response, NoMemory>
     ensures { IfOk result (λ response. response ≡ violation_response broken.now) }
 {
-    let fields = words_of(alloc, broken)?;
+    let fields = rules_of(alloc, broken)?;
     coded_response(alloc, 400, 2, fields, "schema violation")
 }
 
@@ -85,13 +85,13 @@ fn refusal_object(
     json!(in alloc; {"code": code, "fields": fields, "message": text, "name": text})
 }
 
-fn words_of(alloc: Global, broken: &[Broken]) -> Result<Map<String, Value>, AllocError>
-    ensures { IfOk result (λ fields. members_view fields.entries ≡ words_of broken.now) }
+fn rules_of(alloc: Global, broken: &[Broken]) -> Result<Map<String, Value>, AllocError>
+    ensures { IfOk result (λ fields. members_view fields.entries ≡ rules_of broken.now) }
 {
     let mut fields = Map::new(alloc);
-    for fault in broken {
-        let word = text_value(alloc, fault.rule.word())?;
-        put(&mut fields, alloc, fault.path.as_str(), word)?;
+    for violation in broken {
+        let word = text_value(alloc, violation.rule.as_str())?;
+        put(&mut fields, alloc, violation.path.as_str(), word)?;
     }
     Ok(fields)
 }

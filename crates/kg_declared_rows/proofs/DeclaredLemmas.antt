@@ -12,7 +12,7 @@ use Rattle.serde_json.specs.Data.{Data, Members, no_members, member}
 use Rattle.serde_json.specs.Find.{get_member}
 use Rattle.kg_row_types.specs.declared.entity.Kind.{Kind}
 use Rattle.kg_row_types.specs.declared.entity.Kind.TheVariants as kind
-use Rattle.kg_declared_rows.specs.Faults.{rows_at, rows_in}
+use Rattle.kg_declared_rows.specs.Violations.{rows_at, rows_in}
 use Rattle.kg_declared_rows.specs.Rows.{Row, alone, consumers, first_consumer, first_route, listed, nested, nested_in, owned, plugins, routes, row_of, rows_of, services, stripped, without}
 use Rattle.kg_declared_rows.specs.SeenRows.{AreListed, HaveNested, HaveNestedPlugins, consumers_begin, joined, seen, seen_all}
 use Rattle.kg_declared_rows.specs.declared.declared.Declared.{Declared}

@@ -1,2 +1,2 @@
 mod DeclaredLemmas
-mod FaultLemmas
+mod ViolationLemmas

@@ -1,3 +1,3 @@
-pub mod Faults
+pub mod Violations
 pub mod Rows
 pub mod SeenRows

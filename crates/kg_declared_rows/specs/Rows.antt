@@ -6,7 +6,7 @@ use Rattle.std.specs.Str.{bytes_eq}
 use Rattle.serde_json.specs.Data.{Members, no_members, member}
 use Rattle.kg_row_types.specs.declared.entity.Kind.{Kind}
 use Rattle.kg_row_types.specs.declared.entity.Kind.TheVariants as kind
-use Rattle.kg_declared_rows.specs.Faults.{rows_at}
+use Rattle.kg_declared_rows.specs.Violations.{rows_at}
 use Rattle.kg_declared_rows.specs.declared.declared.Above.{Above}
 
 -- a row of the declaration: the one under which it stands, its members, and the names of those of its nested

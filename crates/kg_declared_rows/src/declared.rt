@@ -6,7 +6,7 @@ ghost use Rattle.serde_json.specs.View.{members_view};
 ghost use Rattle.kg_declared_rows.specs.Rows.{listed, nested, nested_in, row_of, rows_of, stripped, without};
 ghost use Rattle.kg_declared_rows.specs.SeenRows.{AreListed, HaveNested, HaveNestedPlugins, joined, seen, seen_all};
 
-use crate::faults::take_rows;
+use crate::violations::take_rows;
 use kg_row_types::entity::Kind;
 use kg_text::NoMemory;
 use serde_json::{Map, Value};

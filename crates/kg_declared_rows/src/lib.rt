@@ -5,7 +5,7 @@
 #![tactic(auto)]
 
 mod declared;
-mod faults;
+mod violations;
 
 pub use crate::declared::{Above, Declared, rows_of};
-pub use crate::faults::own_faults;
+pub use crate::violations::own_violations;

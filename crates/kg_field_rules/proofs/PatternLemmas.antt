@@ -22,7 +22,7 @@ use Rattle.regex_syntax.specs.declared.error.ErrorKind.{ErrorKind}
 use Rattle.regex_syntax.specs.declared.error.ErrorKind.TheVariants.{OutOfMemory, NestLimitExceeded}
 use Rattle.kg_row_types.specs.Patterns.{pattern_of, is_pattern}
 
--- what is kept of what was read
+-- what is stored of what was read
 abbrev kept : Nested Re × Names → Option Re
 kept parsed = if nat_le parsed.0.depth default_config.nest_limit then Some parsed.0.value else None
 

@@ -1,4 +1,4 @@
--- Which of several rules counts, and that told faults aren't lost.
+-- Which of several rules counts, and that told violations aren't lost.
 use Rattle.std.proofs.Common.{◌≡◌, nat_le, Bool, true, false, not, List, [], ◌∷◌, ◌++◌, fold, Option, Some, None, if◌then◌else◌, refl, sym, ap, ◌∙◌, arith}
 use Rattle.std.proofs.lemmas.Bool.Decides.{nat_tests}
 use Rattle.std.specs.BTreeMap.{insert_entry}
@@ -6,7 +6,7 @@ use Rattle.std.specs.Cmp.Lexicographic.{slice_cmp}
 use Rattle.std.specs.Ordering.{nat_cmp, match_ordering}
 use Rattle.std.specs.declared.cmp.Ordering.{Ordering}
 use Rattle.std.specs.declared.cmp.Ordering.TheVariants.{Less, Equal, Greater}
-use Rattle.kg_field_rules.specs.Rules.{Fault, broken_if, first, first_by_rank, in_order, rank, sooner, tell}
+use Rattle.kg_field_rules.specs.Rules.{BrokenRule, broken_if, first, first_by_rank, in_order, rank, sooner, tell}
 use Rattle.kg_field_rules.specs.declared.rule.Rule.{Rule}
 use Rattle.kg_field_rules.specs.declared.rule.Rule.TheVariants.{Empty, OutOfRange, Syntax}
 
@@ -63,7 +63,7 @@ text_steps false true false = refl
 text_steps false false true = refl
 text_steps false false false = refl
 
--- ---- told faults
+-- ---- told violations
 
 -- an entry that was put in stands there
 put_stands : {K X : Type 0} (cmp : K → K → Ordering) (es : List (K × X)) (k : K) (v : X) → ¬ (insert_entry cmp es k v ≡ [])
@@ -75,10 +75,10 @@ put_stands cmp (e ∷ es) k v h = at_order (cmp k e.0) h
     at_order Equal h = cc
     at_order Greater h = cc
 
-still_empty : (told faults : List Fault) → fold tell told faults ≡ [] → (told ≡ []) × (faults ≡ [])
+still_empty : (told violations : List BrokenRule) → fold tell told violations ≡ [] → (told ≡ []) × (violations ≡ [])
 still_empty told [] h = (h, refl)
-still_empty told (fault ∷ faults) h = absurd (put_stands (slice_cmp nat_cmp) told fault.0 _ (still_empty (tell told fault) faults h).0)
+still_empty told (violation ∷ violations) h = absurd (put_stands (slice_cmp nat_cmp) told violation.0 _ (still_empty (tell told violation) violations h).0)
 
 -- where nothing is told in the end, nothing was
-pub in_order_none : (faults : List Fault) → in_order faults ≡ [] → faults ≡ []
-in_order_none faults h = (still_empty [] faults h).1
+pub in_order_none : (violations : List BrokenRule) → in_order violations ≡ [] → violations ≡ []
+in_order_none violations h = (still_empty [] violations h).1

@@ -11,8 +11,8 @@ use Rattle.std.specs.Str.Parse.{AllDigits, IsNumeral, ParsesUnsigned, digits_val
 use Rattle.std.specs.Result.{OkIff, result_ok}
 use Rattle.kg_text.specs.Paths.{is_path, is_path_byte, normal_escapes, normal_form, path_len, without_dots}
 use Rattle.kg_text.specs.SameBytes.{same_bytes}
-use Rattle.kg_row_types.specs.ConfigWords.{has_template}
-use Rattle.kg_row_types.specs.Words.{is_normal_path}
+use Rattle.kg_row_types.specs.ConfigTexts.{has_template}
+use Rattle.kg_row_types.specs.TextForms.{is_normal_path}
 use Rattle.kg_field_rules.specs.Urls.{from_first, only_if}
 
 -- ---- truth values

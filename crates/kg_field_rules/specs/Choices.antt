@@ -8,8 +8,8 @@ use Rattle.kg_row_types.specs.declared.config.LimitBy.{LimitBy}
 use Rattle.kg_row_types.specs.declared.config.LimitBy.TheVariants.{Consumer, Ip, Service}
 use Rattle.kg_row_types.specs.declared.config.SizeUnit.{SizeUnit}
 use Rattle.kg_row_types.specs.declared.config.SizeUnit.TheVariants.{Megabytes, Kilobytes, Bytes}
-use Rattle.kg_field_rules.specs.declared.word.Choice.{Choice}
-use Rattle.kg_field_rules.specs.declared.word.Choice.TheVariants as choice
+use Rattle.kg_field_rules.specs.declared.text_kind.Choice.{Choice}
+use Rattle.kg_field_rules.specs.declared.text_kind.Choice.TheVariants as choice
 
 -- what sizes are counted in
 abbrev pub size_units : List (List ℕ × SizeUnit)

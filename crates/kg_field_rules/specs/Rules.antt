@@ -1,4 +1,4 @@
--- Broken rules of a body: their words, which of them is told, and the list of all that are told. The words and
+-- Broken rules of a body: their texts, which of them is told, and the list of all that are told. The words and
 -- their order are this project's own.
 use Rattle.std.specs.Prelude.{ℕ, Bool, List, [], ◌∷◌, map, fold, Option, Some, None, codes, nat_le, if◌then◌else◌}
 use Rattle.std.specs.BTreeMap.{insert_entry, is_at}
@@ -6,22 +6,22 @@ use Rattle.std.specs.Cmp.Lexicographic.{slice_cmp}
 use Rattle.std.specs.Map.{lookup}
 use Rattle.std.specs.Option.{option_map_or}
 use Rattle.std.specs.Ordering.{nat_cmp}
-use Rattle.kg_field_rules.specs.declared.fault.Broken.{Broken}
+use Rattle.kg_field_rules.specs.declared.violations.Broken.{Broken}
 use Rattle.kg_field_rules.specs.declared.rule.Rule.{Rule}
 use Rattle.kg_field_rules.specs.declared.rule.Rule.TheVariants.{Required, Unknown, WrongType, Empty, OutOfRange, Syntax, OneOf, Fixed, Exclusive, Repeated}
 
--- the word of a rule
-abbrev pub rule_word : Rule → List ℕ
-rule_word Unknown = codes "unknown"
-rule_word Fixed = codes "fixed"
-rule_word WrongType = codes "type"
-rule_word Empty = codes "empty"
-rule_word OutOfRange = codes "out of range"
-rule_word OneOf = codes "one of"
-rule_word Syntax = codes "syntax"
-rule_word Repeated = codes "repeated"
-rule_word Exclusive = codes "exclusive"
-rule_word Required = codes "required"
+-- the text of a rule
+abbrev pub rule_text : Rule → List ℕ
+rule_text Unknown = codes "unknown"
+rule_text Fixed = codes "fixed"
+rule_text WrongType = codes "type"
+rule_text Empty = codes "empty"
+rule_text OutOfRange = codes "out of range"
+rule_text OneOf = codes "one of"
+rule_text Syntax = codes "syntax"
+rule_text Repeated = codes "repeated"
+rule_text Exclusive = codes "exclusive"
+rule_text Required = codes "required"
 
 -- the place of a rule in the order in which rules count
 abbrev pub rank : Rule → ℕ
@@ -56,21 +56,21 @@ first_by_rank [] = None
 first_by_rank (rule ∷ others) = sooner (Some rule) (first_by_rank others)
 
 -- a rule that is broken, with the path of its field
-abbrev pub Fault : Type 0
-Fault = List ℕ × Rule
+abbrev pub BrokenRule : Type 0
+BrokenRule = List ℕ × Rule
 
 -- the rule that counts at a path, where one more is told there
-abbrev pub counted : List Fault → List ℕ → Rule → Rule
-counted faults path rule = option_map_or (λ told. first told rule) (lookup (is_at (slice_cmp nat_cmp path)) faults) rule
+abbrev pub counted : List BrokenRule → List ℕ → Rule → Rule
+counted violations path rule = option_map_or (λ told. first told rule) (lookup (is_at (slice_cmp nat_cmp path)) violations) rule
 
--- the faults with one more: in byte order of their paths, each path once
-abbrev pub tell : List Fault → Fault → List Fault
-tell faults fault = insert_entry (slice_cmp nat_cmp) faults fault.0 (counted faults fault.0 fault.1)
+-- the violations with one more: in byte order of their paths, each path once
+abbrev pub tell : List BrokenRule → BrokenRule → List BrokenRule
+tell violations violation = insert_entry (slice_cmp nat_cmp) violations violation.0 (counted violations violation.0 violation.1)
 
--- faults in byte order of their paths, each path once with the rule that counts there
-abbrev pub in_order : List Fault → List Fault
-in_order faults = fold tell [] faults
+-- violations in byte order of their paths, each path once with the rule that counts there
+abbrev pub in_order : List BrokenRule → List BrokenRule
+in_order violations = fold tell [] violations
 
--- the faults as a violation lists them
-abbrev pub listed : List Fault → List Broken
-listed faults = map (λ fault. record { path = fault.0; rule = fault.1 }) faults
+-- the violations as a refusal lists them
+abbrev pub listed : List BrokenRule → List Broken
+listed violations = map (λ violation. record { path = violation.0; rule = violation.1 }) violations

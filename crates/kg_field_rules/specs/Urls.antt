@@ -5,8 +5,8 @@ use Rattle.std.specs.List.{list_all, starts_with, before_first, position_or_len}
 use Rattle.std.specs.Char.{is_ascii_digit}
 use Rattle.std.specs.Str.Parse.{digits_value}
 use Rattle.kg_text.specs.Paths.{slash}
-use Rattle.kg_row_types.specs.ConfigWords.{colon}
-use Rattle.kg_row_types.specs.Words.{is_host, is_normal_path}
+use Rattle.kg_row_types.specs.ConfigTexts.{colon}
+use Rattle.kg_row_types.specs.TextForms.{is_host, is_normal_path}
 use Rattle.kg_field_rules.specs.declared.url.Url.{Url}
 
 -- `x ← reading` goes on with what was read

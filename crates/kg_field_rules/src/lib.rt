@@ -1,9 +1,9 @@
-//! The rules of single fields: their words and order, the forms of texts, and the list of broken rules.
+//! The rules of single fields: their texts and order, the forms of texts, and the list of broken rules.
 #![tactic(auto)]
 
-pub mod fault;
 pub mod parts;
 pub mod rule;
+pub mod text_kind;
 pub mod text_rule;
 pub mod url;
-pub mod word;
+pub mod violations;

@@ -1,7 +1,7 @@
 //! The rules that a body can break.
 
 ghost use Rattle.std.specs.Prelude.{◌≡◌};
-ghost use Rattle.kg_field_rules.specs.Rules.{first, rank, rule_word, sooner};
+ghost use Rattle.kg_field_rules.specs.Rules.{first, rank, rule_text, sooner};
 
 /// A rule that a field can break. Of several at one field the first in the order of this list
 /// counts (this project's own).
@@ -30,9 +30,9 @@ pub enum Rule {
 }
 
 impl Rule {
-    /// The word that stands for the rule in a refusal.
-    pub fn word(self) -> &'static str
-        ensures { result.now ≡ rule_word self }
+    /// The text that stands for the rule in a refusal.
+    pub fn as_str(self) -> &'static str
+        ensures { result.now ≡ rule_text self }
     {
         match self {
             Rule::Unknown => "unknown",

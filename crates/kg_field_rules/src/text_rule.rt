@@ -10,6 +10,7 @@ ghost use Rattle.kg_field_rules.specs.Choices.{is_choice};
 ghost use Rattle.kg_field_rules.specs.TextRules.{choice_rule, has_form, is_longer, text_rule};
 
 use crate::rule::Rule;
+use crate::text_kind::{Choice, TextKind};
 use crate::text_rule::block::is_ipv4_block;
 use crate::text_rule::edit::{has_edit_form, has_header_edit_form, has_header_rename_form};
 use crate::text_rule::forms::{
@@ -19,23 +20,22 @@ use crate::text_rule::forms::{
 pub use crate::text_rule::forms::{is_host, is_normal_path, is_token};
 use crate::text_rule::pattern::has_route_path_form;
 use crate::url::is_url;
-use crate::word::{Choice, Word};
 use kg_row_types::id::Id;
 use kg_text::NoMemory;
 use std::alloc::Global;
 
 /// The first rule that a text of a kind breaks.
 #[tactic(auto, using(crate::proofs::RuleLemmas::text_steps))]
-pub fn text_rule(alloc: Global, word: Word, text: &str) -> Result<Option<Rule>, NoMemory>
-    ensures { IfOk result (λ rule. rule ≡ text_rule word text.now) }
+pub fn text_rule(alloc: Global, text_kind: TextKind, text: &str) -> Result<Option<Rule>, NoMemory>
+    ensures { IfOk result (λ rule. rule ≡ text_rule text_kind text.now) }
 {
     if text.is_empty() {
         return Ok(Some(Rule::Empty));
     }
-    if is_longer(word, text) {
+    if is_longer(text_kind, text) {
         return Ok(Some(Rule::OutOfRange));
     }
-    if has_form(alloc, word, text)? {
+    if has_form(alloc, text_kind, text)? {
         Ok(None)
     } else {
         Ok(Some(Rule::Syntax))
@@ -43,37 +43,37 @@ pub fn text_rule(alloc: Global, word: Word, text: &str) -> Result<Option<Rule>, 
 }
 
 /// Is the text longer than its kind allows?
-pub fn is_longer(word: Word, text: &str) -> bool
-    ensures { result ≡ is_longer word text.now }
+pub fn is_longer(text_kind: TextKind, text: &str) -> bool
+    ensures { result ≡ is_longer text_kind text.now }
 {
-    match word.longest() {
+    match text_kind.longest() {
         Some(most) => text.len() > most,
         None => false,
     }
 }
 
 /// Is the text spelled as its kind is?
-pub fn has_form(alloc: Global, word: Word, text: &str) -> Result<bool, NoMemory>
-    ensures { IfOk result (λ has. has ≡ has_form word text.now) }
+pub fn has_form(alloc: Global, text_kind: TextKind, text: &str) -> Result<bool, NoMemory>
+    ensures { IfOk result (λ has. has ≡ has_form text_kind text.now) }
 {
-    match word {
-        Word::Id => Ok(Id::parse(text.as_bytes()).is_some()),
-        Word::Path => Ok(is_normal_path(text.as_bytes())),
-        Word::Url => Ok(is_url(text.as_bytes())),
-        Word::RoutePath => has_route_path_form(alloc, text),
-        Word::LongText => Ok(has_no_controls(text)),
-        Word::Name => Ok(has_name_form(text.as_bytes())),
-        Word::FreeText => Ok(has_no_controls(text)),
-        Word::Username => Ok(has_username_form(text)),
-        Word::Anonymous => Ok(has_no_controls(text)),
-        Word::Host => Ok(has_host_form(text.as_bytes())),
-        Word::RouteHost => Ok(has_route_host_form(text.as_bytes())),
-        Word::Method => Ok(has_method_form(text.as_bytes())),
-        Word::Token => Ok(is_token(text.as_bytes())),
-        Word::AddressBlock => is_ipv4_block(alloc, text.as_bytes()),
-        Word::Edit => Ok(has_edit_form(text)),
-        Word::HeaderEdit => Ok(has_header_edit_form(text)),
-        Word::HeaderRename => Ok(has_header_rename_form(text)),
+    match text_kind {
+        TextKind::Id => Ok(Id::parse(text.as_bytes()).is_some()),
+        TextKind::Path => Ok(is_normal_path(text.as_bytes())),
+        TextKind::Url => Ok(is_url(text.as_bytes())),
+        TextKind::RoutePath => has_route_path_form(alloc, text),
+        TextKind::LongText => Ok(has_no_controls(text)),
+        TextKind::Name => Ok(has_name_form(text.as_bytes())),
+        TextKind::FreeText => Ok(has_no_controls(text)),
+        TextKind::Username => Ok(has_username_form(text)),
+        TextKind::Anonymous => Ok(has_no_controls(text)),
+        TextKind::Host => Ok(has_host_form(text.as_bytes())),
+        TextKind::RouteHost => Ok(has_route_host_form(text.as_bytes())),
+        TextKind::Method => Ok(has_method_form(text.as_bytes())),
+        TextKind::Token => Ok(is_token(text.as_bytes())),
+        TextKind::AddressBlock => is_ipv4_block(alloc, text.as_bytes()),
+        TextKind::Edit => Ok(has_edit_form(text)),
+        TextKind::HeaderEdit => Ok(has_header_edit_form(text)),
+        TextKind::HeaderRename => Ok(has_header_rename_form(text)),
     }
 }
 

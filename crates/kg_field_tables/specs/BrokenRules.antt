@@ -9,7 +9,7 @@ use Rattle.kg_row_types.specs.declared.entity.Kind.{Kind}
 use Rattle.kg_row_types.specs.declared.plugin.PluginName.{PluginName}
 use Rattle.kg_field_tables.specs.FieldTables.{field_of, table_of}
 use Rattle.kg_field_tables.specs.Judging.{is_set, judged, typed}
-use Rattle.kg_field_rules.specs.Rules.{Fault}
+use Rattle.kg_field_rules.specs.Rules.{BrokenRule}
 use Rattle.kg_field_tables.specs.declared.constant.Constant.{Constant}
 use Rattle.kg_field_tables.specs.declared.constant.Constant.TheVariants as constant
 use Rattle.kg_field_tables.specs.declared.constant.Phrase.{Phrase}
@@ -55,7 +55,7 @@ field_rule (Judged shape) d = judged shape d
 field_rule (Inside table) d = object_rule d
 
 -- a rule that is broken at a path
-abbrev pub told : List ℕ → Option Rule → List Fault
+abbrev pub told : List ℕ → Option Rule → List BrokenRule
 told path None = []
 told path (Some rule) = (path, rule) ∷ []
 
@@ -67,23 +67,23 @@ table_inside _ = None
 -- ---- all fields
 
 abbrev mutual
-  -- the faults of an object's members, whose paths have something in front
-  pub faults_in : Members → Table → List ℕ → List Fault
-  faults_in no_members table front = []
-  faults_in (member name d rest) table front =
+  -- the violations of an object's members, whose paths have something in front
+  pub violations_in : Members → Table → List ℕ → List BrokenRule
+  violations_in no_members table front = []
+  violations_in (member name d rest) table front =
       told (front ++ name) (field_rule (field_of table name) d)
-      ++ faults_inside d (field_of table name) (front ++ name)
-      ++ faults_in rest table front
+      ++ violations_inside d (field_of table name) (front ++ name)
+      ++ violations_in rest table front
 
-  -- the faults inside the value of a field: a dot stands between the names
-  pub faults_inside : Data → Field → List ℕ → List Fault
-  faults_inside (object members) field path = option_map_or (λ table. faults_in members table (path ++ codes ".")) (table_inside field) []
-  faults_inside _ field path = []
+  -- the violations inside the value of a field: a dot stands between the names
+  pub violations_inside : Data → Field → List ℕ → List BrokenRule
+  violations_inside (object members) field path = option_map_or (λ table. violations_in members table (path ++ codes ".")) (table_inside field) []
+  violations_inside _ field path = []
 
 -- the plugin that a body names, if there is one of that name
 abbrev pub named_plugin : Data → Option PluginName
 named_plugin body = option_and_then plugin_named (option_and_then as_str (get (codes "name") body))
 
--- the faults of the fields of a body of a kind, each judged by itself
-abbrev pub field_faults : Kind → Data → List Fault
-field_faults kind body = option_map_or (λ members. faults_in members (table_of kind (named_plugin body)) []) (as_object body) []
+-- the violations of the fields of a body of a kind, each judged by itself
+abbrev pub field_violations : Kind → Data → List BrokenRule
+field_violations kind body = option_map_or (λ members. violations_in members (table_of kind (named_plugin body)) []) (as_object body) []

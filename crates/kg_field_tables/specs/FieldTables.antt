@@ -19,9 +19,9 @@ use Rattle.kg_field_tables.specs.declared.table.Field.{Field}
 use Rattle.kg_field_tables.specs.declared.table.Field.TheVariants.{Unknown, Dropped, Fixed, Judged, Inside}
 use Rattle.kg_field_tables.specs.declared.table.Table.{Table}
 use Rattle.kg_field_tables.specs.declared.table.Table.TheVariants as table
-use Rattle.kg_field_rules.specs.declared.word.Choice.TheVariants as choice
-use Rattle.kg_field_rules.specs.declared.word.Word.{Word}
-use Rattle.kg_field_rules.specs.declared.word.Word.TheVariants as word
+use Rattle.kg_field_rules.specs.declared.text_kind.Choice.TheVariants as choice
+use Rattle.kg_field_rules.specs.declared.text_kind.TextKind.{TextKind}
+use Rattle.kg_field_rules.specs.declared.text_kind.TextKind.TheVariants as text_kind
 
 -- the fields of an object, by name
 abbrev pub Fields : Type 0
@@ -29,7 +29,7 @@ Fields = List (List ℕ × Field)
 
 -- a row's id, and its times, which the clock tells
 abbrev pub row_fields : Fields
-row_fields = (codes "id", Judged (Text word.Id)) ∷ (codes "created_at", Dropped) ∷ (codes "updated_at", Dropped) ∷ []
+row_fields = (codes "id", Judged (Text text_kind.Id)) ∷ (codes "created_at", Dropped) ∷ (codes "updated_at", Dropped) ∷ []
 
 -- tags, timeouts and certificates, which a service has no use for
 abbrev pub other_service_fields : Fields
@@ -46,14 +46,14 @@ other_service_fields =
 
 abbrev pub service_fields : Fields
 service_fields =
-    (codes "name", Judged (Text word.Name))
+    (codes "name", Judged (Text text_kind.Name))
     ∷ (codes "protocol", Fixed (Phrase phrase.Http))
-    ∷ (codes "host", Judged (Text word.Host))
+    ∷ (codes "host", Judged (Text text_kind.Host))
     ∷ (codes "port", Judged (Whole 1 65535))
-    ∷ (codes "path", Judged (Text word.Path))
+    ∷ (codes "path", Judged (Text text_kind.Path))
     ∷ (codes "retries", Judged (Whole 0 32767))
     ∷ (codes "enabled", Judged Flag)
-    ∷ (codes "url", Judged (Text word.Url))
+    ∷ (codes "url", Judged (Text text_kind.Url))
     ∷ other_service_fields
 
 -- how paths are joined, what other protocols ask for, tags and buffers
@@ -71,12 +71,12 @@ other_route_fields =
 
 abbrev pub route_fields : Fields
 route_fields =
-    (codes "name", Judged (Text word.Name))
+    (codes "name", Judged (Text text_kind.Name))
     ∷ (codes "service", Judged (Reference mention.Name))
     ∷ (codes "protocols", Judged Protocols)
-    ∷ (codes "methods", Judged (Texts word.Method))
-    ∷ (codes "hosts", Judged (Texts word.RouteHost))
-    ∷ (codes "paths", Judged (Texts word.RoutePath))
+    ∷ (codes "methods", Judged (Texts text_kind.Method))
+    ∷ (codes "hosts", Judged (Texts text_kind.RouteHost))
+    ∷ (codes "paths", Judged (Texts text_kind.RoutePath))
     ∷ (codes "headers", Judged Headers)
     ∷ (codes "regex_priority", Judged (Integer (neg_ℤ (pos 1000000)) (pos 1000000)))
     ∷ (codes "strip_path", Judged Flag)
@@ -85,15 +85,15 @@ route_fields =
 
 abbrev pub consumer_fields : Fields
 consumer_fields =
-    (codes "username", Judged (Text word.Username))
-    ∷ (codes "custom_id", Judged (Text word.FreeText))
+    (codes "username", Judged (Text text_kind.Username))
+    ∷ (codes "custom_id", Judged (Text text_kind.FreeText))
     ∷ (codes "tags", Dropped)
     ∷ row_fields
 
 abbrev pub key_cred_fields : Fields
 key_cred_fields =
     (codes "consumer", Judged (Reference mention.Username))
-    ∷ (codes "key", Judged (Text word.FreeText))
+    ∷ (codes "key", Judged (Text text_kind.FreeText))
     ∷ (codes "ttl", Fixed Nothing)
     ∷ (codes "tags", Dropped)
     ∷ row_fields
@@ -101,15 +101,15 @@ key_cred_fields =
 abbrev pub basic_cred_fields : Fields
 basic_cred_fields =
     (codes "consumer", Judged (Reference mention.Username))
-    ∷ (codes "username", Judged (Text word.FreeText))
-    ∷ (codes "password", Judged (Text word.FreeText))
+    ∷ (codes "username", Judged (Text text_kind.FreeText))
+    ∷ (codes "password", Judged (Text text_kind.FreeText))
     ∷ (codes "tags", Dropped)
     ∷ row_fields
 
 abbrev pub acl_row_fields : Fields
 acl_row_fields =
     (codes "consumer", Judged (Reference mention.Username))
-    ∷ (codes "group", Judged (Text word.FreeText))
+    ∷ (codes "group", Judged (Text text_kind.FreeText))
     ∷ (codes "tags", Dropped)
     ∷ row_fields
 
@@ -136,10 +136,10 @@ plugin_fields name =
 
 abbrev pub cors_fields : Fields
 cors_fields =
-    (codes "origins", Judged (Texts word.FreeText))
-    ∷ (codes "methods", Judged (Texts word.Method))
-    ∷ (codes "headers", Judged (Texts word.FreeText))
-    ∷ (codes "exposed_headers", Judged (Texts word.FreeText))
+    (codes "origins", Judged (Texts text_kind.FreeText))
+    ∷ (codes "methods", Judged (Texts text_kind.Method))
+    ∷ (codes "headers", Judged (Texts text_kind.FreeText))
+    ∷ (codes "exposed_headers", Judged (Texts text_kind.FreeText))
     ∷ (codes "credentials", Judged Flag)
     ∷ (codes "max_age", Judged (Whole 0 1000000000))
     ∷ (codes "preflight_continue", Judged Flag)
@@ -148,11 +148,11 @@ cors_fields =
 
 abbrev pub key_auth_fields : Fields
 key_auth_fields =
-    (codes "key_names", Judged (Texts word.Token))
+    (codes "key_names", Judged (Texts text_kind.Token))
     ∷ (codes "key_in_header", Judged Flag)
     ∷ (codes "key_in_query", Judged Flag)
     ∷ (codes "hide_credentials", Judged Flag)
-    ∷ (codes "anonymous", Judged (Text word.Anonymous))
+    ∷ (codes "anonymous", Judged (Text text_kind.Anonymous))
     ∷ (codes "key_in_body", Fixed (Bit false))
     ∷ (codes "run_on_preflight", Fixed (Bit true))
     ∷ (codes "realm", Fixed Nothing)
@@ -161,14 +161,14 @@ key_auth_fields =
 abbrev pub basic_auth_fields : Fields
 basic_auth_fields =
     (codes "hide_credentials", Judged Flag)
-    ∷ (codes "anonymous", Judged (Text word.Anonymous))
+    ∷ (codes "anonymous", Judged (Text text_kind.Anonymous))
     ∷ (codes "realm", Fixed (Phrase phrase.Service))
     ∷ []
 
 abbrev pub ip_restriction_fields : Fields
 ip_restriction_fields =
-    (codes "allow", Judged (Texts word.AddressBlock))
-    ∷ (codes "deny", Judged (Texts word.AddressBlock))
+    (codes "allow", Judged (Texts text_kind.AddressBlock))
+    ∷ (codes "deny", Judged (Texts text_kind.AddressBlock))
     ∷ (codes "status", Fixed Nothing)
     ∷ (codes "message", Fixed Nothing)
     ∷ []
@@ -182,8 +182,8 @@ size_limit_fields =
 
 abbrev pub acl_fields : Fields
 acl_fields =
-    (codes "allow", Judged (Texts word.FreeText))
-    ∷ (codes "deny", Judged (Texts word.FreeText))
+    (codes "allow", Judged (Texts text_kind.FreeText))
+    ∷ (codes "deny", Judged (Texts text_kind.FreeText))
     ∷ (codes "hide_groups_header", Judged Flag)
     ∷ (codes "always_use_authenticated_groups", Fixed (Bit false))
     ∷ (codes "include_consumer_groups", Fixed (Bit false))
@@ -227,9 +227,9 @@ response_transformer_fields =
 abbrev pub termination_fields : Fields
 termination_fields =
     (codes "status_code", Judged (Whole 200 599))
-    ∷ (codes "message", Judged (Text word.FreeText))
-    ∷ (codes "body", Judged (Text word.LongText))
-    ∷ (codes "content_type", Judged (Text word.FreeText))
+    ∷ (codes "message", Judged (Text text_kind.FreeText))
+    ∷ (codes "body", Judged (Text text_kind.LongText))
+    ∷ (codes "content_type", Judged (Text text_kind.FreeText))
     ∷ (codes "trigger", Fixed Nothing)
     ∷ (codes "echo", Fixed (Bit false))
     ∷ []
@@ -249,9 +249,9 @@ config_fields plugin.RequestTermination = termination_fields
 -- ---- lists of edits
 
 -- in a renaming of headers the value is a name too
-abbrev pub header_word : EditList → Word
-header_word edits.Rename = word.HeaderRename
-header_word _ = word.HeaderEdit
+abbrev pub header_text_kind : EditList → TextKind
+header_text_kind edits.Rename = text_kind.HeaderRename
+header_text_kind _ = text_kind.HeaderEdit
 
 -- only a replacement can speak of the uri
 abbrev pub uri_field : EditList → Fields
@@ -260,14 +260,14 @@ uri_field _ = []
 
 abbrev pub request_edit_fields : EditList → Fields
 request_edit_fields edits =
-    (codes "headers", Judged (Texts (header_word edits)))
-    ∷ (codes "querystring", Judged (Texts word.Edit))
+    (codes "headers", Judged (Texts (header_text_kind edits)))
+    ∷ (codes "querystring", Judged (Texts text_kind.Edit))
     ∷ (codes "body", Fixed Nothing)
     ∷ uri_field edits
 
 abbrev pub response_edit_fields : EditList → Fields
 response_edit_fields edits =
-    (codes "headers", Judged (Texts (header_word edits)))
+    (codes "headers", Judged (Texts (header_text_kind edits)))
     ∷ (codes "json", Fixed Nothing)
     ∷ []
 

@@ -8,8 +8,8 @@ use Rattle.serde_json.specs.Data.{Data, null, boolean, number, string, array, ob
 use Rattle.serde_json.specs.Find.{as_bool, as_number, as_str, as_array, as_object, as_u64, as_i64, is_float}
 use Rattle.kg_text.specs.Names.{is_token}
 use Rattle.kg_row_types.specs.Ids.{id_of}
-use Rattle.kg_row_types.specs.Words.{are_distinct}
-use Rattle.kg_field_rules.specs.TextRules.{text_breaks, text_rule, choice_rule, kept}
+use Rattle.kg_row_types.specs.TextForms.{are_distinct}
+use Rattle.kg_field_rules.specs.TextRules.{text_breaks, text_rule, choice_rule, stored}
 use Rattle.kg_field_rules.specs.Choices.{is_choice}
 use Rattle.kg_field_rules.specs.Rules.{broken_if, first_by_rank}
 use Rattle.kg_field_tables.specs.declared.reference.Mention.{Mention}
@@ -20,9 +20,9 @@ use Rattle.kg_field_rules.specs.declared.rule.Rule.{Rule}
 use Rattle.kg_field_rules.specs.declared.rule.Rule.TheVariants.{WrongType, Empty, OutOfRange, OneOf, Syntax, Repeated}
 use Rattle.kg_field_tables.specs.declared.shape.Shape.{Shape}
 use Rattle.kg_field_tables.specs.declared.shape.Shape.TheVariants as shape
-use Rattle.kg_field_rules.specs.declared.word.Choice.TheVariants as choice
-use Rattle.kg_field_rules.specs.declared.word.Word.{Word}
-use Rattle.kg_field_rules.specs.declared.word.Word.TheVariants as word
+use Rattle.kg_field_rules.specs.declared.text_kind.Choice.TheVariants as choice
+use Rattle.kg_field_rules.specs.declared.text_kind.TextKind.{TextKind}
+use Rattle.kg_field_rules.specs.declared.text_kind.TextKind.TheVariants as text_kind
 
 -- null and the empty list count as not set
 abbrev pub is_set : Data → Bool
@@ -53,15 +53,15 @@ each_text (item first rest) = option_and_then (λ text. option_map (λ more. tex
 abbrev pub texts_of : Data → Option (List (List ℕ))
 texts_of d = option_and_then each_text (as_array d)
 
--- the rules that a list breaks: it has at most 64 texts, no two of which are kept alike
-abbrev pub list_breaks : Word → List (List ℕ) → List Rule
+-- the rules that a list breaks: it has at most 64 texts, no two of which are stored alike
+abbrev pub list_breaks : TextKind → List (List ℕ) → List Rule
 list_breaks kind texts =
     flat_map (text_breaks kind) texts
     ++ broken_if (nat_lt 64 (length texts)) OutOfRange
-    ++ broken_if (not (are_distinct (map (kept kind) texts))) Repeated
+    ++ broken_if (not (are_distinct (map (stored kind) texts))) Repeated
 
 -- the one that is told
-abbrev pub list_rule : Word → List (List ℕ) → Option Rule
+abbrev pub list_rule : TextKind → List (List ℕ) → Option Rule
 list_rule kind texts = first_by_rank (list_breaks kind texts)
 
 -- the rules that the protocols of a route break, of which http is one
@@ -98,15 +98,15 @@ mentioned_by mention.Name = codes "name"
 mentioned_by mention.Username = codes "username"
 
 -- how such a row is named
-abbrev pub word_of : Mention → Word
-word_of mention.Name = word.Name
-word_of mention.Username = word.FreeText
+abbrev pub text_kind_of : Mention → TextKind
+text_kind_of mention.Name = text_kind.Name
+text_kind_of mention.Username = text_kind.FreeText
 
 abbrev pub by_id : List ℕ → Result Reference Rule
 by_id text = if length text == 0 then Err Empty else option_map_or (λ id. Ok (Id id)) (id_of text) (Err Syntax)
 
 abbrev pub by_name : Mention → List ℕ → Result Reference Rule
-by_name how text = option_map_or (λ rule. Err rule) (text_rule (word_of how) text) (Ok (Name text))
+by_name how text = option_map_or (λ rule. Err rule) (text_rule (text_kind_of how) text) (Ok (Name text))
 
 -- a text that tells an id is that id, and any other is a name
 abbrev pub by_text : Mention → List ℕ → Result Reference Rule
@@ -140,7 +140,7 @@ is_header name = is_token name && not (bytes_eq (str_to_ascii_lowercase name) (c
 
 -- the rules that the values of a header break
 abbrev pub values_breaks : Data → List Rule
-values_breaks d = option_map_or (list_breaks word.FreeText) (texts_of d) (WrongType ∷ [])
+values_breaks d = option_map_or (list_breaks text_kind.FreeText) (texts_of d) (WrongType ∷ [])
 
 -- the rules that one header breaks, by its name and by its values
 abbrev pub header_breaks : List ℕ → Data → List Rule

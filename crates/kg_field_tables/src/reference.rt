@@ -1,9 +1,9 @@
 //! References to rows of other kinds.
 
 ghost use Rattle.std.specs.Prelude.{◌≡◌};
-ghost use Rattle.kg_field_tables.specs.Judging.{mentioned_by, word_of};
+ghost use Rattle.kg_field_tables.specs.Judging.{mentioned_by, text_kind_of};
 
-use kg_field_rules::word::Word;
+use kg_field_rules::text_kind::TextKind;
 use kg_row_types::id::Id;
 use kg_text::Text;
 
@@ -35,12 +35,12 @@ impl Mention {
     }
 
     /// How such a row is named.
-    pub fn word(self) -> Word
-        ensures { result ≡ word_of self }
+    pub fn text_kind(self) -> TextKind
+        ensures { result ≡ text_kind_of self }
     {
         match self {
-            Mention::Name => Word::Name,
-            Mention::Username => Word::FreeText,
+            Mention::Name => TextKind::Name,
+            Mention::Username => TextKind::FreeText,
         }
     }
 }

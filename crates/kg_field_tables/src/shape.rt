@@ -1,14 +1,14 @@
 //! The shapes of values that fields take.
 
 use crate::reference::Mention;
-use kg_field_rules::word::{Choice, Word};
+use kg_field_rules::text_kind::{Choice, TextKind};
 
 /// What a value is made of. null and the empty list are taken at every shape, as not set.
 #[derive(Clone, Copy)]
 pub enum Shape {
-    Text(Word),
-    /// At most 64 texts, no two of which are kept alike.
-    Texts(Word),
+    Text(TextKind),
+    /// At most 64 texts, no two of which are stored alike.
+    Texts(TextKind),
     OneOf(Choice),
     /// A list of `http` and `https` with `http` in it.
     Protocols,

@@ -10,7 +10,7 @@ use crate::constant::{Constant, Phrase};
 use crate::reference::Mention;
 use crate::shape::Shape;
 use crate::table::config::{config_table_field, request_edits_field, response_edits_field};
-use kg_field_rules::word::{Choice, Word};
+use kg_field_rules::text_kind::{Choice, TextKind};
 use kg_row_types::entity::Kind;
 use kg_row_types::plugin::PluginName;
 
@@ -97,7 +97,7 @@ fn row_field(name: &str) -> Field
     ensures depth { depth_of result ≡ 0 }
 {
     match name {
-        "id" => Field::Judged(Shape::Text(Word::Id)),
+        "id" => Field::Judged(Shape::Text(TextKind::Id)),
         "created_at" | "updated_at" => Field::Dropped,
         _ => Field::Unknown,
     }
@@ -108,20 +108,20 @@ fn service_field(name: &str) -> Field
     ensures depth { depth_of result ≡ 0 }
 {
     match name {
-        "name" => Field::Judged(Shape::Text(Word::Name)),
+        "name" => Field::Judged(Shape::Text(TextKind::Name)),
         "protocol" => Field::Fixed(Constant::Phrase(Phrase::Http)),
-        "host" => Field::Judged(Shape::Text(Word::Host)),
+        "host" => Field::Judged(Shape::Text(TextKind::Host)),
         "port" => Field::Judged(Shape::Whole {
             low: 1,
             high: 65_535,
         }),
-        "path" => Field::Judged(Shape::Text(Word::Path)),
+        "path" => Field::Judged(Shape::Text(TextKind::Path)),
         "retries" => Field::Judged(Shape::Whole {
             low: 0,
             high: 32_767,
         }),
         "enabled" => Field::Judged(Shape::Flag),
-        "url" => Field::Judged(Shape::Text(Word::Url)),
+        "url" => Field::Judged(Shape::Text(TextKind::Url)),
         _ => other_service_field(name),
     }
 }
@@ -149,12 +149,12 @@ fn route_field(name: &str) -> Field
     ensures depth { depth_of result ≡ 0 }
 {
     match name {
-        "name" => Field::Judged(Shape::Text(Word::Name)),
+        "name" => Field::Judged(Shape::Text(TextKind::Name)),
         "service" => Field::Judged(Shape::Reference(Mention::Name)),
         "protocols" => Field::Judged(Shape::Protocols),
-        "methods" => Field::Judged(Shape::Texts(Word::Method)),
-        "hosts" => Field::Judged(Shape::Texts(Word::RouteHost)),
-        "paths" => Field::Judged(Shape::Texts(Word::RoutePath)),
+        "methods" => Field::Judged(Shape::Texts(TextKind::Method)),
+        "hosts" => Field::Judged(Shape::Texts(TextKind::RouteHost)),
+        "paths" => Field::Judged(Shape::Texts(TextKind::RoutePath)),
         "headers" => Field::Judged(Shape::Headers),
         "regex_priority" => Field::Judged(Shape::Integer {
             low: -1_000_000,
@@ -185,8 +185,8 @@ fn consumer_field(name: &str) -> Field
     ensures depth { depth_of result ≡ 0 }
 {
     match name {
-        "username" => Field::Judged(Shape::Text(Word::Username)),
-        "custom_id" => Field::Judged(Shape::Text(Word::FreeText)),
+        "username" => Field::Judged(Shape::Text(TextKind::Username)),
+        "custom_id" => Field::Judged(Shape::Text(TextKind::FreeText)),
         "tags" => Field::Dropped,
         _ => row_field(name),
     }
@@ -198,7 +198,7 @@ fn key_cred_field(name: &str) -> Field
 {
     match name {
         "consumer" => Field::Judged(Shape::Reference(Mention::Username)),
-        "key" => Field::Judged(Shape::Text(Word::FreeText)),
+        "key" => Field::Judged(Shape::Text(TextKind::FreeText)),
         "ttl" => Field::Fixed(Constant::Nothing),
         "tags" => Field::Dropped,
         _ => row_field(name),
@@ -211,7 +211,7 @@ fn basic_cred_field(name: &str) -> Field
 {
     match name {
         "consumer" => Field::Judged(Shape::Reference(Mention::Username)),
-        "username" | "password" => Field::Judged(Shape::Text(Word::FreeText)),
+        "username" | "password" => Field::Judged(Shape::Text(TextKind::FreeText)),
         "tags" => Field::Dropped,
         _ => row_field(name),
     }
@@ -223,7 +223,7 @@ fn acl_field(name: &str) -> Field
 {
     match name {
         "consumer" => Field::Judged(Shape::Reference(Mention::Username)),
-        "group" => Field::Judged(Shape::Text(Word::FreeText)),
+        "group" => Field::Judged(Shape::Text(TextKind::FreeText)),
         "tags" => Field::Dropped,
         _ => row_field(name),
     }

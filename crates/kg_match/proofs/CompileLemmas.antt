@@ -4,7 +4,7 @@ use Rattle.std.specs.List.{position}
 use Rattle.std.proofs.lemmas.List.{map-append}
 use Rattle.std.proofs.lemmas.List.Elements.{filter-append}
 use Rattle.std.proofs.lemmas.List.Sums.{position_or_len_is}
-use Rattle.kg_row_types.specs.Words.{is_regex_path}
+use Rattle.kg_row_types.specs.TextForms.{is_regex_path}
 use Rattle.kg_match.specs.RoutePaths.{pattern_text, patterns_of}
 
 -- what a `~` is stripped of

@@ -2,7 +2,7 @@
 use Rattle.std.proofs.Common.{◌≡◌, ◌≢◌, ℕ, Bool, true, false, cond, not, ◌&&◌, ◌||◌, max, List, [], ◌∷◌, map, filter, length, Option, Some, None, is_some, refl, ap, ◌∙◌, nat_eq}
 use Rattle.std.specs.List.{list_any, reduce, starts_with}
 use Rattle.std.specs.Option.{option_or, unwrap_or}
-use Rattle.kg_row_types.specs.Words.{is_regex_path}
+use Rattle.kg_row_types.specs.TextForms.{is_regex_path}
 use Rattle.kg_match.specs.RoutePaths.{pattern_text, pattern_cut, is_prefix, path_fits, patterns_of, first_cut, longest_prefix, path_cut}
 
 or_assoc : (a b c : Bool) → ((a || b) || c) ≡ (a || (b || c))

@@ -4,7 +4,7 @@ use Rattle.std.specs.Prelude.{ℕ, max, Bool, not, ◌&&◌, ◌==◌, List, [],
 use Rattle.std.specs.List.{list_any, starts_with, reduce, position}
 use Rattle.std.specs.Option.{option_or, unwrap_or}
 use Rattle.kg_row_types.specs.Patterns.{is_pattern, first_match}
-use Rattle.kg_row_types.specs.Words.{is_regex_path}
+use Rattle.kg_row_types.specs.TextForms.{is_regex_path}
 use Rattle.kg_row_types.specs.declared.route.Route.{Route}
 use Rattle.kg_match.specs.Attributes.{fits_where}
 

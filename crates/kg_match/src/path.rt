@@ -2,7 +2,7 @@
 
 ghost use Rattle.std.specs.Prelude.{◌≡◌, ◌≢◌, ◌∷◌, ◌++◌, [], ℕ, Err, IfOk, IsTrue, MatchOption, None, OnErr, OnOk, Some, false, not};
 ghost use Rattle.std.specs.Option.{option_or};
-ghost use Rattle.kg_row_types.specs.Words.{is_regex_path};
+ghost use Rattle.kg_row_types.specs.TextForms.{is_regex_path};
 ghost use Rattle.kg_match.specs.RoutePaths.{is_prefix, first_cut, longest_prefix, patterns_of, cut_where_fits, has_bad_pattern, bad_pattern_of};
 ghost use Rattle.kg_match.specs.declared.error.BuildError.TheVariants.{BadPattern as IsBad};
 

@@ -4,7 +4,7 @@ use Rattle.std.proofs.lemmas.List.Sums.{AllPass-from_list_all}
 use Rattle.kg_text.proofs.PathLemmas.{no_normal_form}
 use Rattle.kg_row_types.specs.Patterns.{is_pattern}
 use Rattle.kg_row_types.specs.ValidRows.{IsValidRoute}
-use Rattle.kg_row_types.specs.Words.{is_normal_path, is_regex_path, is_route_path}
+use Rattle.kg_row_types.specs.TextForms.{is_normal_path, is_regex_path, is_route_path}
 use Rattle.kg_row_types.specs.declared.route.Route.{Route}
 use Rattle.kg_match.specs.RoutePaths.{bad_pattern_of, has_bad_pattern}
 use Rattle.kg_match.proofs.CompileLemmas.{position-none}

@@ -5,7 +5,7 @@ use Rattle.std.specs.List.{list_any}
 use Rattle.std.specs.declared.cmp.Ordering.{Ordering}
 use Rattle.std.specs.declared.cmp.Ordering.TheVariants.{Equal}
 use Rattle.std.specs.Ordering.{ordering_then, is_lt, nat_cmp, int_cmp, bool_cmp}
-use Rattle.kg_row_types.specs.Words.{is_regex_path, is_set}
+use Rattle.kg_row_types.specs.TextForms.{is_regex_path, is_set}
 use Rattle.kg_row_types.specs.declared.route.Route.{Route}
 use Rattle.kg_match.specs.RoutePaths.{has_regex_path}
 use Rattle.kg_match.specs.Wildcards.{is_wildcard}

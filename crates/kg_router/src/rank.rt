@@ -2,7 +2,7 @@
 
 ghost use Rattle.std.specs.Prelude.{◌≡◌, ◌≢◌, ◌⊎◌, IsTrue};
 ghost use Rattle.kg_row_types.specs.declared.route.Route.{Route as ARoute};
-ghost use Rattle.kg_row_types.specs.Words.{is_set};
+ghost use Rattle.kg_row_types.specs.TextForms.{is_set};
 ghost use Rattle.kg_router.specs.Order.{attribute_count, has_wildcard_host, regex_priority_of, path_len, longest_path_len, is_before};
 ghost use Rattle.kg_router.specs.Ranks.{rank_of, rank_cmp};
 ghost use Rattle.kg_match.specs.RoutePaths.{has_regex_path};

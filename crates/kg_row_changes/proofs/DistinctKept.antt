@@ -6,7 +6,7 @@ use Rattle.kg_row_types.specs.Entities.{kind_of, id_of_row}
 use Rattle.kg_row_types.specs.PluginNames.{plugin_of, plugin_text}
 use Rattle.kg_row_types.specs.RowChanges.{has_row, names_row}
 use Rattle.kg_row_types.specs.RowLists.{RowLists}
-use Rattle.kg_row_types.specs.ValidRows.{HasDistinctRows, same_id, same_membership, same_place}
+use Rattle.kg_row_types.specs.ValidRows.{HasDistinctRows, same_id, same_membership, same_name_and_scope}
 use Rattle.kg_row_types.specs.declared.consumer.AclRow.{AclRow}
 use Rattle.kg_row_types.specs.declared.consumer.BasicCred.{BasicCred}
 use Rattle.kg_row_types.specs.declared.consumer.Consumer.{Consumer}
@@ -36,7 +36,7 @@ id_flips None (Some b) = refl
 id_flips (Some a) None = refl
 id_flips (Some a) (Some b) = number_flips a b
 
-place_flips : (a b : PluginRow) → same_place a b ≡ same_place b a
+place_flips : (a b : PluginRow) → same_name_and_scope a b ≡ same_name_and_scope b a
 place_flips a b =
     ap₂ (λ p q. p && q) (bytes_flip (plugin_text (plugin_of a.config)) (plugin_text (plugin_of b.config)))
     (ap₂ (λ p q. p && q) (ap₂ (λ p q. p && q) (id_flips a.scope.service b.scope.service) (id_flips a.scope.route b.scope.route)) (id_flips a.scope.consumer b.scope.consumer))
@@ -91,9 +91,9 @@ module _ (rows : RowLists) (distinct : HasDistinctRows rows) where
   free_memberships new free =
       first_free (codes "group", holder {X = AclRow} (λ other. other.id) (Some new.id) (λ other. same_membership other new) rows.acls) ((codes "id", id_holder kind.Acl new.id (Some new.id) rows) ∷ []) free
 
-  free_places : (new : PluginRow) → is_unique (row.Plugin new) rows ≡ true → holder {X = PluginRow} (λ other. other.id) (Some new.id) (λ other. same_place other new) rows.plugins ≡ None
+  free_places : (new : PluginRow) → is_unique (row.Plugin new) rows ≡ true → holder {X = PluginRow} (λ other. other.id) (Some new.id) (λ other. same_name_and_scope other new) rows.plugins ≡ None
   free_places new free =
-      second_free (codes "id", id_holder kind.Plugin new.id (Some new.id) rows) (codes "name", holder {X = PluginRow} (λ other. other.id) (Some new.id) (λ other. same_place other new) rows.plugins) ([]) free
+      second_free (codes "id", id_holder kind.Plugin new.id (Some new.id) rows) (codes "name", holder {X = PluginRow} (λ other. other.id) (Some new.id) (λ other. same_name_and_scope other new) rows.plugins) ([]) free
 
   inserted_distinct : (new : Entity) → has_row (kind_of new) (id_of_row new) rows ≡ false → is_unique new rows ≡ true → HasDistinctRows (changed (Insert new) rows)
   inserted_distinct (row.Service new) fresh free = record {
@@ -227,7 +227,7 @@ module _ (rows : RowLists) (distinct : HasDistinctRows rows) where
     keys = distinct.keys;
     basic_usernames = distinct.basic_usernames;
     memberships = distinct.memberships;
-    places = whole_push {X = PluginRow} (λ r. r.id) same_place place_flips new rows.plugins fresh (free_places new free) distinct.places;
+    places = whole_push {X = PluginRow} (λ r. r.id) same_name_and_scope place_flips new rows.plugins fresh (free_places new free) distinct.places;
   }
 
   updated_distinct : (new : Entity) → is_unique new rows ≡ true → HasDistinctRows (changed (Update new) rows)
@@ -362,7 +362,7 @@ module _ (rows : RowLists) (distinct : HasDistinctRows rows) where
     keys = distinct.keys;
     basic_usernames = distinct.basic_usernames;
     memberships = distinct.memberships;
-    places = whole_replaced {X = PluginRow} (λ r. r.id) same_place place_flips new rows.plugins distinct.ids.plugins (free_places new free) distinct.places;
+    places = whole_replaced {X = PluginRow} (λ r. r.id) same_name_and_scope place_flips new rows.plugins distinct.ids.plugins (free_places new free) distinct.places;
   }
 
   deleted_distinct : (of_kind : Kind) (id : ℕ) → HasDistinctRows (changed (Delete of_kind id) rows)
@@ -386,7 +386,7 @@ module _ (rows : RowLists) (distinct : HasDistinctRows rows) where
         keys = distinct.keys;
         basic_usernames = distinct.basic_usernames;
         memberships = distinct.memberships;
-        places = distinct_filter same_place unnamed rows.plugins distinct.places;
+        places = distinct_filter same_name_and_scope unnamed rows.plugins distinct.places;
       }
   deleted_distinct kind.Route id =
       let stays : Route → Bool = λ r. not (r.id == id) in
@@ -408,7 +408,7 @@ module _ (rows : RowLists) (distinct : HasDistinctRows rows) where
         keys = distinct.keys;
         basic_usernames = distinct.basic_usernames;
         memberships = distinct.memberships;
-        places = distinct_filter same_place unnamed rows.plugins distinct.places;
+        places = distinct_filter same_name_and_scope unnamed rows.plugins distinct.places;
       }
   deleted_distinct kind.Consumer id =
       let stays : Consumer → Bool = λ r. not (r.id == id) in
@@ -433,7 +433,7 @@ module _ (rows : RowLists) (distinct : HasDistinctRows rows) where
         keys = key_filter (λ r. r.id) (λ r. r.key) keycred_stays rows.key_creds distinct.keys;
         basic_usernames = key_filter (λ r. r.id) (λ r. r.username) basiccred_stays rows.basic_creds distinct.basic_usernames;
         memberships = distinct_filter same_membership acl_stays rows.acls distinct.memberships;
-        places = distinct_filter same_place unnamed rows.plugins distinct.places;
+        places = distinct_filter same_name_and_scope unnamed rows.plugins distinct.places;
       }
   deleted_distinct kind.KeyCred id =
       let stays : KeyCred → Bool = λ r. not (r.id == id) in
@@ -517,7 +517,7 @@ module _ (rows : RowLists) (distinct : HasDistinctRows rows) where
         keys = distinct.keys;
         basic_usernames = distinct.basic_usernames;
         memberships = distinct.memberships;
-        places = distinct_filter same_place stays rows.plugins distinct.places;
+        places = distinct_filter same_name_and_scope stays rows.plugins distinct.places;
       }
 
   pub changed_distinct : (done : Command) → is_consistent rows done ≡ true → HasDistinctRows (changed done rows)

@@ -7,7 +7,7 @@ use Rattle.std.specs.Str.{bytes_eq}
 use Rattle.kg_row_types.specs.Lookups.{is_text}
 use Rattle.kg_row_types.specs.RowChanges.{has_row}
 use Rattle.kg_row_types.specs.RowLists.{RowLists}
-use Rattle.kg_row_types.specs.ValidRows.{same_membership, same_place}
+use Rattle.kg_row_types.specs.ValidRows.{same_membership, same_name_and_scope}
 use Rattle.kg_row_types.specs.declared.entity.Entity.{Entity}
 use Rattle.kg_row_types.specs.declared.entity.Entity.TheVariants as row
 use Rattle.kg_row_types.specs.declared.entity.Kind.{Kind}
@@ -62,7 +62,7 @@ claims (row.Acl membership) replaced rows =
     ∷ []
 claims (row.Plugin plugin) replaced rows =
     (codes "id", id_holder kind.Plugin plugin.id replaced rows)
-    ∷ (codes "name", holder (λ other. other.id) replaced (λ other. same_place other plugin) rows.plugins)
+    ∷ (codes "name", holder (λ other. other.id) replaced (λ other. same_name_and_scope other plugin) rows.plugins)
     ∷ []
 
 -- the first that another row has

@@ -6,7 +6,7 @@ ghost use Rattle.std.specs.List.{list_any};
 ghost use Rattle.std.specs.Option.{option_copied};
 ghost use Rattle.std.specs.Str.{bytes_eq};
 ghost use Rattle.kg_row_types.specs.Lookups.{is_text};
-ghost use Rattle.kg_row_types.specs.ValidRows.{same_membership, same_place};
+ghost use Rattle.kg_row_types.specs.ValidRows.{same_membership, same_name_and_scope};
 ghost use Rattle.kg_row_types.specs.declared.entity.Entity.TheVariants as of_row;
 ghost use Rattle.kg_row_changes.specs.Claims.{claimed, first_taken, holder, id_holder, is_other, text_holder};
 
@@ -314,7 +314,7 @@ fn with_membership<'r>(
 }
 
 fn place_holder(rows: &Rows, replaced: Option<Id>, plugin: &PluginRow) -> Option<Id>
-    ensures { result ≡ holder (λ other. other.id) replaced (λ other. same_place other plugin.now) rows.now.plugins }
+    ensures { result ≡ holder (λ other. other.id) replaced (λ other. same_name_and_scope other plugin.now) rows.now.plugins }
 {
     id_of(in_place(rows.plugins().as_slice(), replaced, plugin))
 }
@@ -324,9 +324,9 @@ fn in_place<'r>(
     replaced: Option<Id>,
     plugin: &PluginRow,
 ) -> Option<&'r PluginRow>
-    ensures { option_copied result ≡ find (λ other. is_other replaced other.id && same_place other plugin.now) plugins.now }
+    ensures { option_copied result ≡ find (λ other. is_other replaced other.id && same_name_and_scope other plugin.now) plugins.now }
 {
-    plugins.iter().find(|other| is_other(replaced, other.id) && is_same_place(other, plugin))
+    plugins.iter().find(|other| is_other(replaced, other.id) && is_like(other, plugin))
 }
 
 // One consumer in one group?
@@ -337,8 +337,8 @@ fn is_same_membership(a: &AclRow, b: &AclRow) -> bool
 }
 
 // One plugin in one scope?
-fn is_same_place(a: &PluginRow, b: &PluginRow) -> bool
-    ensures { result ≡ same_place a.now b.now }
+fn is_like(a: &PluginRow, b: &PluginRow) -> bool
+    ensures { result ≡ same_name_and_scope a.now b.now }
 {
     a.config.name().is_same(b.config.name()) && a.scope.is_same(&b.scope)
 }

@@ -21,8 +21,8 @@ use Rattle.kg_row_types.specs.declared.config.Termination.{Termination}
 use Rattle.kg_row_types.specs.declared.plugin.PluginName.{PluginName}
 use Rattle.kg_row_types.specs.declared.plugin.PluginName.TheVariants as plugin
 use Rattle.kg_bodies.specs.Settings.{text_at, texts_at, whole_at, flag_at, size_unit_at, limit_by_at, inside}
-use Rattle.kg_field_rules.specs.declared.word.Word.{Word}
-use Rattle.kg_field_rules.specs.declared.word.Word.TheVariants as word
+use Rattle.kg_field_rules.specs.declared.text_kind.TextKind.{TextKind}
+use Rattle.kg_field_rules.specs.declared.text_kind.TextKind.TheVariants as text_kind
 
 -- a list that is set, else the other
 abbrev pub list_over : {A : Type 0} → List A → List A → List A
@@ -106,10 +106,10 @@ default_config plugin.RequestTermination = config_of.RequestTermination default_
 
 abbrev pub cors_over : Data → Cors → Cors
 cors_over config before = record {
-  origins = list_over (texts_at word.FreeText (codes "origins") config) before.origins;
-  methods = list_over (texts_at word.Method (codes "methods") config) before.methods;
-  headers = list_over (texts_at word.FreeText (codes "headers") config) before.headers;
-  exposed_headers = list_over (texts_at word.FreeText (codes "exposed_headers") config) before.exposed_headers;
+  origins = list_over (texts_at text_kind.FreeText (codes "origins") config) before.origins;
+  methods = list_over (texts_at text_kind.Method (codes "methods") config) before.methods;
+  headers = list_over (texts_at text_kind.FreeText (codes "headers") config) before.headers;
+  exposed_headers = list_over (texts_at text_kind.FreeText (codes "exposed_headers") config) before.exposed_headers;
   credentials = unwrap_or (flag_at (codes "credentials") config) before.credentials;
   max_age = option_or (whole_at 0 1000000000 (codes "max_age") config) before.max_age;
   preflight_continue = unwrap_or (flag_at (codes "preflight_continue") config) before.preflight_continue;
@@ -117,23 +117,23 @@ cors_over config before = record {
 
 abbrev pub key_auth_over : Data → KeyAuth → KeyAuth
 key_auth_over config before = record {
-  key_names = list_over (texts_at word.Token (codes "key_names") config) before.key_names;
+  key_names = list_over (texts_at text_kind.Token (codes "key_names") config) before.key_names;
   key_in_header = unwrap_or (flag_at (codes "key_in_header") config) before.key_in_header;
   key_in_query = unwrap_or (flag_at (codes "key_in_query") config) before.key_in_query;
   hide_credentials = unwrap_or (flag_at (codes "hide_credentials") config) before.hide_credentials;
-  anonymous = option_or (text_at word.Anonymous (codes "anonymous") config) before.anonymous;
+  anonymous = option_or (text_at text_kind.Anonymous (codes "anonymous") config) before.anonymous;
 }
 
 abbrev pub basic_auth_over : Data → BasicAuth → BasicAuth
 basic_auth_over config before = record {
   hide_credentials = unwrap_or (flag_at (codes "hide_credentials") config) before.hide_credentials;
-  anonymous = option_or (text_at word.Anonymous (codes "anonymous") config) before.anonymous;
+  anonymous = option_or (text_at text_kind.Anonymous (codes "anonymous") config) before.anonymous;
 }
 
 abbrev pub ip_restriction_over : Data → IpRestriction → IpRestriction
 ip_restriction_over config before = record {
-  allow = list_over (texts_at word.AddressBlock (codes "allow") config) before.allow;
-  deny = list_over (texts_at word.AddressBlock (codes "deny") config) before.deny;
+  allow = list_over (texts_at text_kind.AddressBlock (codes "allow") config) before.allow;
+  deny = list_over (texts_at text_kind.AddressBlock (codes "deny") config) before.deny;
 }
 
 abbrev pub size_limit_over : Data → SizeLimit → SizeLimit
@@ -144,8 +144,8 @@ size_limit_over config before = record {
 
 abbrev pub groups_over : Data → Acl → Acl
 groups_over config before = record {
-  allow = list_over (texts_at word.FreeText (codes "allow") config) before.allow;
-  deny = list_over (texts_at word.FreeText (codes "deny") config) before.deny;
+  allow = list_over (texts_at text_kind.FreeText (codes "allow") config) before.allow;
+  deny = list_over (texts_at text_kind.FreeText (codes "deny") config) before.deny;
   hide_groups_header = unwrap_or (flag_at (codes "hide_groups_header") config) before.hide_groups_header;
 }
 
@@ -164,41 +164,41 @@ rate_limiting_over config before = record {
 }
 
 -- the lists of one step of a request's change; where neither is set, the step isn't
-abbrev pub edits_over : Word → Data → Edits → Edits
+abbrev pub edits_over : TextKind → Data → Edits → Edits
 edits_over in_headers step before =
     let headers = texts_at in_headers (codes "headers") step in
-    let querystring = texts_at word.Edit (codes "querystring") step in
+    let querystring = texts_at text_kind.Edit (codes "querystring") step in
     if length headers == 0 && length querystring == 0 then before
     else record { headers = headers; querystring = querystring }
 
 abbrev pub request_transformer_over : Data → RequestTransformer → RequestTransformer
 request_transformer_over config before = record {
-  remove = edits_over word.HeaderEdit (inside (codes "remove") config) before.remove;
-  rename = edits_over word.HeaderRename (inside (codes "rename") config) before.rename;
-  replace = edits_over word.HeaderEdit (inside (codes "replace") config) before.replace;
-  add = edits_over word.HeaderEdit (inside (codes "add") config) before.add;
-  append = edits_over word.HeaderEdit (inside (codes "append") config) before.append;
+  remove = edits_over text_kind.HeaderEdit (inside (codes "remove") config) before.remove;
+  rename = edits_over text_kind.HeaderRename (inside (codes "rename") config) before.rename;
+  replace = edits_over text_kind.HeaderEdit (inside (codes "replace") config) before.replace;
+  add = edits_over text_kind.HeaderEdit (inside (codes "add") config) before.add;
+  append = edits_over text_kind.HeaderEdit (inside (codes "append") config) before.append;
 }
 
 -- the list of one step of a reply's change
-abbrev pub header_edits_over : Word → Data → List (List ℕ) → List (List ℕ)
+abbrev pub header_edits_over : TextKind → Data → List (List ℕ) → List (List ℕ)
 header_edits_over kind step before = list_over (texts_at kind (codes "headers") step) before
 
 abbrev pub response_transformer_over : Data → ResponseTransformer → ResponseTransformer
 response_transformer_over config before = record {
-  remove = header_edits_over word.HeaderEdit (inside (codes "remove") config) before.remove;
-  rename = header_edits_over word.HeaderRename (inside (codes "rename") config) before.rename;
-  replace = header_edits_over word.HeaderEdit (inside (codes "replace") config) before.replace;
-  add = header_edits_over word.HeaderEdit (inside (codes "add") config) before.add;
-  append = header_edits_over word.HeaderEdit (inside (codes "append") config) before.append;
+  remove = header_edits_over text_kind.HeaderEdit (inside (codes "remove") config) before.remove;
+  rename = header_edits_over text_kind.HeaderRename (inside (codes "rename") config) before.rename;
+  replace = header_edits_over text_kind.HeaderEdit (inside (codes "replace") config) before.replace;
+  add = header_edits_over text_kind.HeaderEdit (inside (codes "add") config) before.add;
+  append = header_edits_over text_kind.HeaderEdit (inside (codes "append") config) before.append;
 }
 
 abbrev pub termination_over : Data → Termination → Termination
 termination_over config before = record {
   status_code = unwrap_or (whole_at 200 599 (codes "status_code") config) before.status_code;
-  message = option_or (text_at word.FreeText (codes "message") config) before.message;
-  body = option_or (text_at word.LongText (codes "body") config) before.body;
-  content_type = option_or (text_at word.FreeText (codes "content_type") config) before.content_type;
+  message = option_or (text_at text_kind.FreeText (codes "message") config) before.message;
+  body = option_or (text_at text_kind.LongText (codes "body") config) before.body;
+  content_type = option_or (text_at text_kind.FreeText (codes "content_type") config) before.content_type;
 }
 
 -- the config with what the body sets

@@ -7,7 +7,7 @@ ghost use Rattle.kg_row_making.specs.FinishedConfigs.{basic_auth_over, config_ov
 use crate::member::member_or;
 use crate::set::{narrow, set, set_list, set_option};
 use kg_bodies::settings::{flag_at, limit_by_at, size_unit_at, text_at, texts_at, whole_at};
-use kg_field_rules::word::Word;
+use kg_field_rules::text_kind::TextKind;
 use kg_row_types::config::{
     Acl, BasicAuth, Config, Cors, Edits, IpRestriction, KeyAuth, RateLimiting, RequestTransformer,
     ResponseTransformer, SizeLimit, Termination,
@@ -41,19 +41,19 @@ fn set_cors(alloc: Global, config: &Value, place: &mut Cors) -> Result<(), NoMem
 {
     set_list(
         &mut place.origins,
-        texts_at(alloc, Word::FreeText, "origins", config)?,
+        texts_at(alloc, TextKind::FreeText, "origins", config)?,
     );
     set_list(
         &mut place.methods,
-        texts_at(alloc, Word::Method, "methods", config)?,
+        texts_at(alloc, TextKind::Method, "methods", config)?,
     );
     set_list(
         &mut place.headers,
-        texts_at(alloc, Word::FreeText, "headers", config)?,
+        texts_at(alloc, TextKind::FreeText, "headers", config)?,
     );
     set_list(
         &mut place.exposed_headers,
-        texts_at(alloc, Word::FreeText, "exposed_headers", config)?,
+        texts_at(alloc, TextKind::FreeText, "exposed_headers", config)?,
     );
     set(&mut place.credentials, flag_at("credentials", config));
     set_option(
@@ -72,7 +72,7 @@ fn set_key_auth(alloc: Global, config: &Value, place: &mut KeyAuth) -> Result<()
 {
     set_list(
         &mut place.key_names,
-        texts_at(alloc, Word::Token, "key_names", config)?,
+        texts_at(alloc, TextKind::Token, "key_names", config)?,
     );
     set(&mut place.key_in_header, flag_at("key_in_header", config));
     set(&mut place.key_in_query, flag_at("key_in_query", config));
@@ -82,7 +82,7 @@ fn set_key_auth(alloc: Global, config: &Value, place: &mut KeyAuth) -> Result<()
     );
     set_option(
         &mut place.anonymous,
-        text_at(alloc, Word::Anonymous, "anonymous", config)?,
+        text_at(alloc, TextKind::Anonymous, "anonymous", config)?,
     );
     Ok(())
 }
@@ -96,7 +96,7 @@ fn set_basic_auth(alloc: Global, config: &Value, place: &mut BasicAuth) -> Resul
     );
     set_option(
         &mut place.anonymous,
-        text_at(alloc, Word::Anonymous, "anonymous", config)?,
+        text_at(alloc, TextKind::Anonymous, "anonymous", config)?,
     );
     Ok(())
 }
@@ -110,11 +110,11 @@ fn set_ip_restriction(
 {
     set_list(
         &mut place.allow,
-        texts_at(alloc, Word::AddressBlock, "allow", config)?,
+        texts_at(alloc, TextKind::AddressBlock, "allow", config)?,
     );
     set_list(
         &mut place.deny,
-        texts_at(alloc, Word::AddressBlock, "deny", config)?,
+        texts_at(alloc, TextKind::AddressBlock, "deny", config)?,
     );
     Ok(())
 }
@@ -135,11 +135,11 @@ fn set_groups(alloc: Global, config: &Value, place: &mut Acl) -> Result<(), NoMe
 {
     set_list(
         &mut place.allow,
-        texts_at(alloc, Word::FreeText, "allow", config)?,
+        texts_at(alloc, TextKind::FreeText, "allow", config)?,
     );
     set_list(
         &mut place.deny,
-        texts_at(alloc, Word::FreeText, "deny", config)?,
+        texts_at(alloc, TextKind::FreeText, "deny", config)?,
     );
     set(
         &mut place.hide_groups_header,
@@ -176,14 +176,14 @@ fn set_rate_limiting(
 // Sets the lists of one step of a request's change. Where neither is set, the step isn't.
 fn set_edits(
     alloc: Global,
-    in_headers: Word,
+    in_headers: TextKind,
     step: &Value,
     place: &mut Edits,
 ) -> Result<(), NoMemory>
     ensures { OnOk result (place.new ≡ edits_over in_headers (view step.now) place.old) }
 {
     let headers = texts_at(alloc, in_headers, "headers", step)?;
-    let querystring = texts_at(alloc, Word::Edit, "querystring", step)?;
+    let querystring = texts_at(alloc, TextKind::Edit, "querystring", step)?;
     if headers.as_slice().is_empty() && querystring.as_slice().is_empty() {
         return Ok(());
     }
@@ -202,31 +202,31 @@ fn set_request_transformer(
     let null = Value::Null;
     set_edits(
         alloc,
-        Word::HeaderEdit,
+        TextKind::HeaderEdit,
         member_or("remove", config, &null),
         &mut place.remove,
     )?;
     set_edits(
         alloc,
-        Word::HeaderRename,
+        TextKind::HeaderRename,
         member_or("rename", config, &null),
         &mut place.rename,
     )?;
     set_edits(
         alloc,
-        Word::HeaderEdit,
+        TextKind::HeaderEdit,
         member_or("replace", config, &null),
         &mut place.replace,
     )?;
     set_edits(
         alloc,
-        Word::HeaderEdit,
+        TextKind::HeaderEdit,
         member_or("add", config, &null),
         &mut place.add,
     )?;
     set_edits(
         alloc,
-        Word::HeaderEdit,
+        TextKind::HeaderEdit,
         member_or("append", config, &null),
         &mut place.append,
     )?;
@@ -236,7 +236,7 @@ fn set_request_transformer(
 // Sets the list of one step of a reply's change.
 fn set_header_edits(
     alloc: Global,
-    kind: Word,
+    kind: TextKind,
     step: &Value,
     place: &mut List<Text>,
 ) -> Result<(), NoMemory>
@@ -256,31 +256,31 @@ fn set_response_transformer(
     let null = Value::Null;
     set_header_edits(
         alloc,
-        Word::HeaderEdit,
+        TextKind::HeaderEdit,
         member_or("remove", config, &null),
         &mut place.remove,
     )?;
     set_header_edits(
         alloc,
-        Word::HeaderRename,
+        TextKind::HeaderRename,
         member_or("rename", config, &null),
         &mut place.rename,
     )?;
     set_header_edits(
         alloc,
-        Word::HeaderEdit,
+        TextKind::HeaderEdit,
         member_or("replace", config, &null),
         &mut place.replace,
     )?;
     set_header_edits(
         alloc,
-        Word::HeaderEdit,
+        TextKind::HeaderEdit,
         member_or("add", config, &null),
         &mut place.add,
     )?;
     set_header_edits(
         alloc,
-        Word::HeaderEdit,
+        TextKind::HeaderEdit,
         member_or("append", config, &null),
         &mut place.append,
     )?;
@@ -296,15 +296,15 @@ fn set_termination(alloc: Global, config: &Value, place: &mut Termination) -> Re
     );
     set_option(
         &mut place.message,
-        text_at(alloc, Word::FreeText, "message", config)?,
+        text_at(alloc, TextKind::FreeText, "message", config)?,
     );
     set_option(
         &mut place.body,
-        text_at(alloc, Word::LongText, "body", config)?,
+        text_at(alloc, TextKind::LongText, "body", config)?,
     );
     set_option(
         &mut place.content_type,
-        text_at(alloc, Word::FreeText, "content_type", config)?,
+        text_at(alloc, TextKind::FreeText, "content_type", config)?,
     );
     Ok(())
 }

@@ -1,4 +1,4 @@
-//! What is kept of a password.
+//! What is stored of a password.
 
 ghost use Rattle.std.specs.Prelude.{◌≡◌, ◌++◌, IfOk, codes};
 ghost use Rattle.kg_row_types.specs.Ids.{printed};

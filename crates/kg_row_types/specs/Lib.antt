@@ -1,4 +1,4 @@
-pub mod ConfigWords
+pub mod ConfigTexts
 pub mod Entities
 pub mod Ids
 pub mod Lookups
@@ -10,4 +10,4 @@ pub mod StoredPassword
 pub mod Tables
 pub mod ValidRows
 pub mod Values
-pub mod Words
+pub mod TextForms

@@ -7,11 +7,11 @@ use Rattle.std.specs.Cmp.Lexicographic.{slice_cmp}
 use Rattle.std.specs.Ordering.{nat_cmp}
 use Rattle.std.specs.Str.{bytes_eq}
 use Rattle.kg_text.specs.Names.{IsName}
-use Rattle.kg_row_types.specs.ConfigWords.{is_key_name, is_ipv4_block, is_edit, is_header_edit, is_header_rename}
+use Rattle.kg_row_types.specs.ConfigTexts.{is_key_name, is_ipv4_block, is_edit, is_header_edit, is_header_rename}
 use Rattle.kg_row_types.specs.Ids.{IsId}
 use Rattle.kg_row_types.specs.PluginNames.{plugin_of, same_plugin}
 use Rattle.kg_row_types.specs.RowLists.{RowLists}
-use Rattle.kg_row_types.specs.Words.{is_name, is_free_text, is_text_within, is_username, is_printed_if_id, is_hash, is_host, is_kept_route_host, is_normal_path, is_route_path, is_method, is_list_of, is_set}
+use Rattle.kg_row_types.specs.TextForms.{is_name, is_free_text, is_text_within, is_username, is_printed_if_id, is_hash, is_host, is_stored_route_host, is_normal_path, is_route_path, is_method, is_list_of, is_set}
 use Rattle.kg_row_types.specs.declared.config.Acl.{Acl}
 use Rattle.kg_row_types.specs.declared.config.BasicAuth.{BasicAuth}
 use Rattle.kg_row_types.specs.declared.config.Config.{Config}
@@ -59,7 +59,7 @@ pub record IsValidRoute (route : Route) : Type 0 where
   pub name : IfSome route.name (λ name. IsTrue (is_name name))
   pub service : IsId route.service
   pub methods : IsTrue (is_list_of is_method route.methods)
-  pub hosts : IsTrue (is_list_of is_kept_route_host route.hosts)
+  pub hosts : IsTrue (is_list_of is_stored_route_host route.hosts)
   pub paths : IsTrue (is_list_of is_route_path route.paths)
   pub headers : All IsValidHeaderTest route.headers
   pub ordered : IsStrictlySortedBy (slice_cmp nat_cmp) (map (λ test. test.name) route.headers)
@@ -248,8 +248,8 @@ abbrev pub same_scope : Scope → Scope → Bool
 same_scope a b = same_id a.service b.service && same_id a.route b.route && same_id a.consumer b.consumer
 
 -- one plugin in one scope
-abbrev pub same_place : PluginRow → PluginRow → Bool
-same_place a b = same_plugin (plugin_of a.config) (plugin_of b.config) && same_scope a.scope b.scope
+abbrev pub same_name_and_scope : PluginRow → PluginRow → Bool
+same_name_and_scope a b = same_plugin (plugin_of a.config) (plugin_of b.config) && same_scope a.scope b.scope
 
 -- no two rows share what only one of them may have
 pub record HasDistinctRows (rows : RowLists) : Type 0 where
@@ -261,7 +261,7 @@ pub record HasDistinctRows (rows : RowLists) : Type 0 where
   pub keys : IsDistinct bytes_eq (map (λ row. row.key) rows.key_creds)
   pub basic_usernames : IsDistinct bytes_eq (map (λ row. row.username) rows.basic_creds)
   pub memberships : IsDistinct same_membership rows.acls
-  pub places : IsDistinct same_place rows.plugins
+  pub places : IsDistinct same_name_and_scope rows.plugins
 
 -- a row of this id is there
 abbrev pub has_service : ℕ → RowLists → Bool

@@ -70,10 +70,10 @@ fn are_same_headers(a: &List<HeaderTest>, b: &List<HeaderTest>) -> bool
 pub fn is_same_plugin(a: &PluginRow, b: &PluginRow) -> bool
     ensures { IsTrue result ↔ (a.now ≡ b.now) }
 {
-    has_same_place(a, b) && is_same_config(&a.config, &b.config)
+    has_same_name_and_scope(a, b) && is_same_config(&a.config, &b.config)
 }
 
-fn has_same_place(a: &PluginRow, b: &PluginRow) -> bool
+fn has_same_name_and_scope(a: &PluginRow, b: &PluginRow) -> bool
     ensures { IsTrue result ↔ ((a.now.id ≡ b.now.id) × (a.now.scope ≡ b.now.scope) × (a.now.enabled ≡ b.now.enabled) × (a.now.created_at ≡ b.now.created_at)) }
 {
     a.id == b.id && a.scope == b.scope && a.enabled == b.enabled && a.created_at == b.created_at

@@ -12,7 +12,7 @@ use Rattle.kg_row_changes.specs.Allowed.{has_named_rows, is_allowed, is_unused}
 use Rattle.kg_row_changes.specs.Claims.{claimed}
 use Rattle.kg_rows.specs.Decision.{base_by, own_id, Supply, Decides, decision, deletion, full, inserted, insertion, missing, needed, patched, proposed, put, put_over, replaced, still_named, taken_by_other, unless, violation}
 use Rattle.kg_rows.specs.References.{contradicted_field, dangling_field, fixed_links, link_of, links_in, links_of, targets_in}
-use Rattle.kg_rows.specs.Selections.{place_of, rows_in, selected}
+use Rattle.kg_rows.specs.Selections.{collection_of, rows_in, selected}
 use Rattle.kg_row_values.specs.declared.command.Command.{Command}
 use Rattle.kg_row_values.specs.declared.command.Command.TheVariants as command
 use Rattle.kg_rows.specs.declared.draft.DecideError.{DecideError}
@@ -20,7 +20,7 @@ use Rattle.kg_rows.specs.declared.draft.Draft.{Draft}
 use Rattle.kg_rows.specs.declared.draft.Draft.TheVariants.{Insert, Patch, Put, Delete}
 use Rattle.kg_rows.specs.declared.draft.Refusal.{Refusal}
 use Rattle.kg_rows.specs.declared.draft.Refusal.TheVariants.{Full}
-use Rattle.kg_rows.specs.declared.place.Place.{Place}
+use Rattle.kg_rows.specs.declared.collection.Collection.{Collection}
 use Rattle.kg_rows.specs.declared.select.Parent.{Parent}
 use Rattle.kg_rows.specs.declared.select.Select.{Select}
 use Rattle.kg_rows.proofs.AnswerLemmas.{needed_parts, ok_is, then_parts, unless_none, unless_rest, unmapped}
@@ -28,7 +28,7 @@ use Rattle.kg_rows.proofs.FoundLemmas.{is_there}
 use Rattle.kg_rows.proofs.FreeLemmas.{has_new_id, has_what_it_names, is_unique_new, is_unique_old, or_first, or_second}
 use Rattle.kg_rows.proofs.MadeLemmas.{id_over_again, id_over_old, kind_over}
 use Rattle.kg_row_making.specs.Bases.{BaseValue, Again, New, Old, made_at}
-use Rattle.kg_schema.specs.Between.{faults_between}
+use Rattle.kg_schema.specs.Between.{violations_between}
 use Rattle.kg_schema.specs.Finished.{row_over}
 use Rattle.kg_row_making.specs.declared.base.Links.{Links}
 
@@ -61,7 +61,7 @@ module _ (rows : RowLists) (of_kind : Kind) (body : Data) (base : BaseValue) (ab
 
   is_later : (new : Entity) → proposed rows of_kind body base above present ≡ Ok new → unless refused (Ok made) ≡ Ok new
   unfolding proposed
-  is_later new same = unless_rest (violation (faults_between of_kind body base links (contradicted_field (fixed_links above present) (targets_in body rows)))) (unless refused (Ok made)) new same
+  is_later new same = unless_rest (violation (violations_between of_kind body base links (contradicted_field (fixed_links above present) (targets_in body rows)))) (unless refused (Ok made)) new same
 
   is_made : (new : Entity) → proposed rows of_kind body base above present ≡ Ok new → made ≡ new
   is_made new same = ok_is (unless_rest refused (Ok made) new (is_later new same))
@@ -129,35 +129,35 @@ module _ (rows : RowLists) (of_kind : Kind) (body : Data) (base : BaseValue) (ab
 insertion_is_allowed : (rows : RowLists) (of_kind : Kind) (parent : Option Parent) (body : Data) (id now limit : ℕ) (done : Command)
     → insertion rows of_kind parent body id now limit ≡ Ok done → is_allowed rows done limit ≡ true
 insertion_is_allowed rows of_kind parent body id now limit done same =
-    let parts = needed_parts (place_of parent rows) (λ place. inserted rows of_kind body (New id now) (link_of place) limit) done same in
+    let parts = needed_parts (collection_of parent rows) (λ collection. inserted rows of_kind body (New id now) (link_of collection) limit) done same in
     inserted_is_allowed rows of_kind body (New id now) (link_of parts.0) limit done parts.2
 
 patched_is_allowed : (rows : RowLists) (of_kind : Kind) (parent : Option Parent) (select : Select) (body : Data) (now limit : ℕ) (done : Command)
     → patched rows of_kind parent select body now ≡ Ok done → is_allowed rows done limit ≡ true
 patched_is_allowed rows of_kind parent select body now limit done same =
-    let parts = needed_parts (place_of parent rows) (λ place. needed (selected of_kind select (rows_in place rows)) (λ old. replaced rows of_kind body (Old old now) (link_of place) old)) done same in
+    let parts = needed_parts (collection_of parent rows) (λ collection. needed (selected of_kind select (rows_in collection rows)) (λ old. replaced rows of_kind body (Old old now) (link_of collection) old)) done same in
     let further = needed_parts (selected of_kind select (rows_in parts.0 rows)) (λ old. replaced rows of_kind body (Old old now) (link_of parts.0) old) done parts.2 in
     replaced_is_allowed rows of_kind body (Old further.0 now) (link_of parts.0) further.0 limit done
     (id_over_old of_kind body further.0 now (links_in (id_of_row further.0) (link_of parts.0) (targets_in body rows)))
     (is_there rows parts.0 of_kind select further.0 further.1)
     further.2
 
-put_over_is_allowed : (rows : RowLists) (place : Place) (of_kind : Kind) (select : Select) (body : Data) (supply : Supply) (done : Command) (old : Option Entity)
-    → selected of_kind select (rows_in place rows) ≡ old
-    → put_over rows of_kind select body (link_of place) supply old ≡ Ok done → is_allowed rows done supply.limit ≡ true
-put_over_is_allowed rows place of_kind select body supply done (Some old) found same =
-    replaced_is_allowed rows of_kind body (Again (id_of_row old) (made_at old) supply.now) (link_of place) old supply.limit done
-    (id_over_again of_kind body (id_of_row old) (made_at old) supply.now (links_in (id_of_row old) (link_of place) (targets_in body rows)))
-    (is_there rows place of_kind select old found)
+put_over_is_allowed : (rows : RowLists) (collection : Collection) (of_kind : Kind) (select : Select) (body : Data) (supply : Supply) (done : Command) (old : Option Entity)
+    → selected of_kind select (rows_in collection rows) ≡ old
+    → put_over rows of_kind select body (link_of collection) supply old ≡ Ok done → is_allowed rows done supply.limit ≡ true
+put_over_is_allowed rows collection of_kind select body supply done (Some old) found same =
+    replaced_is_allowed rows of_kind body (Again (id_of_row old) (made_at old) supply.now) (link_of collection) old supply.limit done
+    (id_over_again of_kind body (id_of_row old) (made_at old) supply.now (links_in (id_of_row old) (link_of collection) (targets_in body rows)))
+    (is_there rows collection of_kind select old found)
     same
-put_over_is_allowed rows place of_kind select body supply done None found same =
-    let parts = needed_parts (base_by of_kind select supply.id supply.now) (λ new. inserted rows of_kind body new (link_of place) supply.limit) done same in
-    inserted_is_allowed rows of_kind body parts.0 (link_of place) supply.limit done parts.2
+put_over_is_allowed rows collection of_kind select body supply done None found same =
+    let parts = needed_parts (base_by of_kind select supply.id supply.now) (λ new. inserted rows of_kind body new (link_of collection) supply.limit) done same in
+    inserted_is_allowed rows of_kind body parts.0 (link_of collection) supply.limit done parts.2
 
 put_is_allowed : (rows : RowLists) (of_kind : Kind) (parent : Option Parent) (select : Select) (body : Data) (supply : Supply) (done : Command)
     → put rows of_kind parent select body supply ≡ Ok done → is_allowed rows done supply.limit ≡ true
 put_is_allowed rows of_kind parent select body supply done same =
-    let parts = needed_parts (place_of parent rows) (λ place. put_over rows of_kind select body (link_of place) supply (selected of_kind select (rows_in place rows))) done same in
+    let parts = needed_parts (collection_of parent rows) (λ collection. put_over rows of_kind select body (link_of collection) supply (selected of_kind select (rows_in collection rows))) done same in
     put_over_is_allowed rows parts.0 of_kind select body supply done (selected of_kind select (rows_in parts.0 rows)) refl parts.2
 
 not_named : (b : Bool) (refusal : Refusal) → (if b then None else Some refusal) ≡ None → b ≡ true
@@ -167,7 +167,7 @@ not_named false refusal none = absurd (true≢false (ap (λ o. elim o [ None ↦
 deletion_is_allowed : (rows : RowLists) (of_kind : Kind) (parent : Option Parent) (select : Select) (limit : ℕ) (done : Command)
     → deletion rows of_kind parent select ≡ Ok done → is_allowed rows done limit ≡ true
 deletion_is_allowed rows of_kind parent select limit done same =
-    let parts = needed_parts (place_of parent rows) (λ place. needed (selected of_kind select (rows_in place rows)) (λ old. unless (still_named of_kind (id_of_row old) rows) (Ok (command.Delete of_kind (id_of_row old))))) done same in
+    let parts = needed_parts (collection_of parent rows) (λ collection. needed (selected of_kind select (rows_in collection rows)) (λ old. unless (still_named of_kind (id_of_row old) rows) (Ok (command.Delete of_kind (id_of_row old))))) done same in
     let further = needed_parts (selected of_kind select (rows_in parts.0 rows)) (λ old. unless (still_named of_kind (id_of_row old) rows) (Ok (command.Delete of_kind (id_of_row old)))) done parts.2 in
     let gone : Command = command.Delete of_kind (id_of_row further.0) in
     let unused : is_unused of_kind (id_of_row further.0) rows ≡ true = not_named _ _ (unless_none (still_named of_kind (id_of_row further.0) rows) (Ok gone) done further.2) in

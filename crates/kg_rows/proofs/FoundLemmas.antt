@@ -21,8 +21,8 @@ use Rattle.kg_row_types.specs.Ids.{id_of}
 use Rattle.kg_row_types.specs.Lookups.{is_text}
 use Rattle.kg_row_types.specs.RowChanges.{has_row, names_row}
 use Rattle.kg_rows.specs.Selections.{is_owned_under, is_route_under, row_with_id, row_with_word, rows_in, rows_under, selected}
-use Rattle.kg_rows.specs.declared.place.Place.{Place}
-use Rattle.kg_rows.specs.declared.place.Place.TheVariants.{Anywhere, Under}
+use Rattle.kg_rows.specs.declared.collection.Collection.{Collection}
+use Rattle.kg_rows.specs.declared.collection.Collection.TheVariants.{Anywhere, Under}
 use Rattle.kg_rows.specs.declared.select.Select.{Select}
 use Rattle.kg_rows.specs.declared.select.Select.TheVariants.{Id, Word}
 
@@ -117,6 +117,6 @@ module _ (rows : RowLists) (upper : Kind) (above : ℕ) where
   under_is_there kind.Acl id holds = among_all {X = AclRow} (λ r. r.id == id) (λ r. is_owned_under upper above r.consumer) rows.acls holds
   under_is_there kind.Plugin id holds = among_all {X = PluginRow} (λ r. r.id == id) (names_row upper above) rows.plugins holds
 
-pub is_there : (rows : RowLists) (place : Place) (of_kind : Kind) (select : Select) (old : Entity) → selected of_kind select (rows_in place rows) ≡ Some old → has_row of_kind (id_of_row old) rows ≡ true
+pub is_there : (rows : RowLists) (collection : Collection) (of_kind : Kind) (select : Select) (old : Entity) → selected of_kind select (rows_in collection rows) ≡ Some old → has_row of_kind (id_of_row old) rows ≡ true
 is_there rows Anywhere of_kind select old is = selected_there rows old of_kind select is
 is_there rows (Under upper above) of_kind select old is = under_is_there rows upper above of_kind (id_of_row old) (selected_there (rows_under upper above rows) old of_kind select is)

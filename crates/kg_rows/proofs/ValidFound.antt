@@ -16,9 +16,9 @@ use Rattle.kg_row_types.specs.declared.entity.Entity.{Entity}
 use Rattle.kg_row_types.specs.declared.entity.Entity.TheVariants as row
 use Rattle.kg_row_types.specs.declared.entity.Kind.{Kind}
 use Rattle.kg_row_types.specs.declared.entity.Kind.TheVariants as kind
-use Rattle.kg_rows.specs.Selections.{is_owned_under, is_route_under, place_of, row_with_id, row_with_word, rows_in, selected}
-use Rattle.kg_rows.specs.declared.place.Place.{Place}
-use Rattle.kg_rows.specs.declared.place.Place.TheVariants.{Anywhere, Under}
+use Rattle.kg_rows.specs.Selections.{is_owned_under, is_route_under, collection_of, row_with_id, row_with_word, rows_in, selected}
+use Rattle.kg_rows.specs.declared.collection.Collection.{Collection}
+use Rattle.kg_rows.specs.declared.collection.Collection.TheVariants.{Anywhere, Under}
 use Rattle.kg_rows.specs.RowRefs.{row_at}
 use Rattle.kg_rows.specs.declared.row_ref.RowRef.{RowRef}
 use Rattle.kg_rows.specs.declared.select.Select.{Select}
@@ -80,7 +80,7 @@ module _ (rows : RowLists) (valid : AreValidRows rows) (old : Entity) where
   selected_valid of_kind (Worded text) is = valid_by_word of_kind text is
 
 -- the rows in a place are valid
-valid_in : (rows : RowLists) (place : Place) → AreValidRows rows → AreValidRows (rows_in place rows)
+valid_in : (rows : RowLists) (collection : Collection) → AreValidRows rows → AreValidRows (rows_in collection rows)
 valid_in rows Anywhere valid = valid
 valid_in rows (Under upper above) valid = record {
   services = valid.services;
@@ -93,7 +93,7 @@ valid_in rows (Under upper above) valid = record {
 }
 
 -- a row that was found in a place is valid
-pub found_valid : (rows : RowLists) (of_kind : Kind) (place : Place) (select : Select) (found : Option RowRef) → option_map row_at found ≡ selected of_kind select (rows_in place rows)
+pub found_valid : (rows : RowLists) (of_kind : Kind) (collection : Collection) (select : Select) (found : Option RowRef) → option_map row_at found ≡ selected of_kind select (rows_in collection rows)
     → AreValidRows rows → IfSome found (λ row. IsValidRow (row_at row))
-found_valid rows of_kind place select None is valid = tt
-found_valid rows of_kind place select (Some row) is valid = selected_valid (rows_in place rows) (valid_in rows place valid) (row_at row) of_kind select (sym is)
+found_valid rows of_kind collection select None is valid = tt
+found_valid rows of_kind collection select (Some row) is valid = selected_valid (rows_in collection rows) (valid_in rows collection valid) (row_at row) of_kind select (sym is)

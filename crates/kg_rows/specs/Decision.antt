@@ -16,7 +16,7 @@ use Rattle.kg_row_types.specs.declared.entity.Kind.TheVariants as kind
 use Rattle.kg_row_changes.specs.Allowed.{is_unused}
 use Rattle.kg_row_changes.specs.Claims.{claimed}
 use Rattle.kg_rows.specs.References.{contradicted_field, dangling_field, fixed_links, link_of, links_in, links_of, targets_in}
-use Rattle.kg_rows.specs.Selections.{place_of, rows_in, selected}
+use Rattle.kg_rows.specs.Selections.{collection_of, rows_in, selected}
 use Rattle.kg_row_values.specs.declared.command.Command.{Command}
 use Rattle.kg_row_values.specs.declared.command.Command.TheVariants as command
 use Rattle.kg_rows.specs.declared.draft.DecideError.{DecideError}
@@ -31,9 +31,9 @@ use Rattle.kg_rows.specs.declared.select.Select.{Select}
 use Rattle.kg_rows.specs.declared.select.Select.TheVariants.{Id, Word}
 use Rattle.kg_row_making.specs.Bases.{BaseValue, made_at}
 use Rattle.kg_row_making.specs.Bases as base
-use Rattle.kg_schema.specs.Between.{accepts_word, faults_between}
+use Rattle.kg_schema.specs.Between.{accepts_word, violations_between}
 use Rattle.kg_schema.specs.Finished.{row_over}
-use Rattle.kg_field_rules.specs.Rules.{Fault, in_order, listed}
+use Rattle.kg_field_rules.specs.Rules.{BrokenRule, in_order, listed}
 use Rattle.kg_row_making.specs.declared.base.Links.{Links}
 
 -- ---- steps
@@ -55,9 +55,9 @@ and_then (Err refusal) next = Err refusal
 
 -- ---- refusals
 
-abbrev pub violation : List Fault → Option Refusal
+abbrev pub violation : List BrokenRule → Option Refusal
 violation [] = None
-violation (fault ∷ faults) = Some (Violation (listed (in_order (fault ∷ faults))))
+violation (violation ∷ violations) = Some (Violation (listed (in_order (violation ∷ violations))))
 
 abbrev pub missing : Option (List ℕ) → Option Refusal
 missing field = option_map (λ name. Foreign name false) field
@@ -91,7 +91,7 @@ proposed rows kind body base above present =
     let targets = targets_in body rows in
     let links = links_in (own_id base) above targets in
     let row = row_over kind body base links in
-    unless (violation (faults_between kind body base links (contradicted_field (fixed_links above present) targets)))
+    unless (violation (violations_between kind body base links (contradicted_field (fixed_links above present) targets)))
     (unless (conflict rows above targets row (option_map id_of_row present)) (Ok row))
 
 -- a new row
@@ -123,12 +123,12 @@ base_by kind (Word text) id now = base_by_text kind text id now
 
 abbrev pub insertion : RowLists → Kind → Option Parent → Data → ℕ → ℕ → ℕ → Result Command Refusal
 insertion rows kind parent body id now limit =
-    needed (place_of parent rows) (λ place. inserted rows kind body (base.New id now) (link_of place) limit)
+    needed (collection_of parent rows) (λ collection. inserted rows kind body (base.New id now) (link_of collection) limit)
 
 abbrev pub patched : RowLists → Kind → Option Parent → Select → Data → ℕ → Result Command Refusal
 patched rows kind parent select body now =
-    needed (place_of parent rows) (λ place. needed (selected kind select (rows_in place rows)) (λ old.
-    replaced rows kind body (base.Old old now) (link_of place) old))
+    needed (collection_of parent rows) (λ collection. needed (selected kind select (rows_in collection rows)) (λ old.
+    replaced rows kind body (base.Old old now) (link_of collection) old))
 
 -- what a row that is put may need: an id that was drawn, the clock, and how many rows a kind may have
 pub record Supply : Type 0 where
@@ -145,12 +145,12 @@ put_over rows kind select body above supply None =
 
 abbrev pub put : RowLists → Kind → Option Parent → Select → Data → Supply → Result Command Refusal
 put rows kind parent select body supply =
-    needed (place_of parent rows) (λ place.
-    put_over rows kind select body (link_of place) supply (selected kind select (rows_in place rows)))
+    needed (collection_of parent rows) (λ collection.
+    put_over rows kind select body (link_of collection) supply (selected kind select (rows_in collection rows)))
 
 abbrev pub deletion : RowLists → Kind → Option Parent → Select → Result Command Refusal
 deletion rows kind parent select =
-    needed (place_of parent rows) (λ place. needed (selected kind select (rows_in place rows)) (λ old.
+    needed (collection_of parent rows) (λ collection. needed (selected kind select (rows_in collection rows)) (λ old.
     unless (still_named kind (id_of_row old) rows) (Ok (command.Delete kind (id_of_row old)))))
 
 -- the command, or why there is none

@@ -8,7 +8,7 @@ use Rattle.kg_row_types.specs.RowLists.{RowLists}
 use Rattle.kg_row_types.specs.declared.entity.Kind.{Kind}
 use Rattle.kg_row_types.specs.declared.entity.Kind.TheVariants as kind
 use Rattle.kg_row_values.specs.InOrder.{in_order}
-use Rattle.kg_rows.specs.Selections.{place_of, row_with_id, rows_in}
+use Rattle.kg_rows.specs.Selections.{collection_of, row_with_id, rows_in}
 use Rattle.kg_rows.specs.declared.pages.Page.{Page}
 use Rattle.kg_rows.specs.declared.select.Parent.{Parent}
 
@@ -39,4 +39,4 @@ page_in kind offset size rows = record {
 
 -- the page among the rows under a parent, or among all: none where the parent is missing
 abbrev pub page_of : Kind → Option Parent → Option ℕ → ℕ → RowLists → Option Page
-page_of kind parent offset size rows = option_map (λ place. page_in kind offset size (rows_in place rows)) (place_of parent rows)
+page_of kind parent offset size rows = option_map (λ collection. page_in kind offset size (rows_in collection rows)) (collection_of parent rows)

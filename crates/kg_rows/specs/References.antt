@@ -14,8 +14,8 @@ use Rattle.kg_rows.specs.Selections.{row_with_word}
 use Rattle.kg_rows.specs.declared.target.Target.{Target}
 use Rattle.kg_rows.specs.declared.target.Target.TheVariants.{Unset, Missing, Row}
 use Rattle.kg_rows.specs.declared.target.Targets.{Targets}
-use Rattle.kg_rows.specs.declared.place.Place.{Place}
-use Rattle.kg_rows.specs.declared.place.Place.TheVariants.{Anywhere, Under}
+use Rattle.kg_rows.specs.declared.collection.Collection.{Collection}
+use Rattle.kg_rows.specs.declared.collection.Collection.TheVariants.{Anywhere, Under}
 use Rattle.kg_bodies.specs.Settings.{reference_at}
 use Rattle.kg_row_making.specs.declared.base.Links.{Links}
 use Rattle.kg_row_making.specs.declared.base.ParentField.{ParentField}
@@ -37,7 +37,7 @@ link_to kind.Consumer id = record { service = None; route = None; consumer = Som
 link_to _ id = no_links
 
 -- the reference to the parent, if there is one
-abbrev pub link_of : Place → Links
+abbrev pub link_of : Collection → Links
 link_of Anywhere = no_links
 link_of (Under kind id) = link_to kind id
 

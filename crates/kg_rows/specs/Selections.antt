@@ -12,8 +12,8 @@ use Rattle.kg_row_types.specs.declared.entity.Entity.TheVariants as row
 use Rattle.kg_row_types.specs.declared.entity.Kind.{Kind}
 use Rattle.kg_row_types.specs.declared.entity.Kind.TheVariants as kind
 use Rattle.kg_row_types.specs.declared.route.Route.{Route}
-use Rattle.kg_rows.specs.declared.place.Place.{Place}
-use Rattle.kg_rows.specs.declared.place.Place.TheVariants.{Anywhere, Under}
+use Rattle.kg_rows.specs.declared.collection.Collection.{Collection}
+use Rattle.kg_rows.specs.declared.collection.Collection.TheVariants.{Anywhere, Under}
 use Rattle.kg_rows.specs.declared.select.Parent.{Parent}
 use Rattle.kg_rows.specs.declared.select.Select.{Select}
 use Rattle.kg_rows.specs.declared.select.Select.TheVariants.{Id, Word}
@@ -76,14 +76,14 @@ abbrev pub parent_id : Parent → RowLists → Option ℕ
 parent_id parent rows = option_map id_of_row (selected parent.kind parent.select rows)
 
 -- where a row is asked for: under its parent, which may be missing, or among all
-abbrev pub place_of : Option Parent → RowLists → Option Place
-place_of None rows = Some Anywhere
-place_of (Some parent) rows = option_map (Under parent.kind) (parent_id parent rows)
+abbrev pub collection_of : Option Parent → RowLists → Option Collection
+collection_of None rows = Some Anywhere
+collection_of (Some parent) rows = option_map (Under parent.kind) (parent_id parent rows)
 
-abbrev pub rows_in : Place → RowLists → RowLists
+abbrev pub rows_in : Collection → RowLists → RowLists
 rows_in Anywhere rows = rows
 rows_in (Under kind id) rows = rows_under kind id rows
 
 -- the row that is meant: none where the parent is missing
 abbrev pub found : Kind → Option Parent → Select → RowLists → Option Entity
-found kind parent select rows = option_and_then (λ place. selected kind select (rows_in place rows)) (place_of parent rows)
+found kind parent select rows = option_and_then (λ collection. selected kind select (rows_in collection rows)) (collection_of parent rows)

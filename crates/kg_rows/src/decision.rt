@@ -15,8 +15,8 @@ ghost use Rattle.kg_rows.specs.Selections.{rows_in, selected};
 ghost use Rattle.kg_row_values.specs.declared.command.Command.TheVariants as command;
 
 use crate::base::base_by;
+use crate::collection::{Collection, collection_of, link_of, selected_in};
 use crate::draft::{DecideError, Draft, Refusal};
-use crate::place::{Place, link_of, place_of, selected_in};
 use crate::proposal::{inserted, replaced};
 use crate::row_ref::RowRef;
 use crate::select::{Parent, Select};
@@ -66,8 +66,18 @@ fn decided(alloc: Global, rows: &Rows, draft: &Draft, limit: u32) -> Result<Comm
             form,
             id,
             now,
-        } => match place_of(rows, parent) {
-            Some(place) => put(alloc, rows, *kind, &place, select, form, *id, *now, limit),
+        } => match collection_of(rows, parent) {
+            Some(collection) => put(
+                alloc,
+                rows,
+                *kind,
+                &collection,
+                select,
+                form,
+                *id,
+                *now,
+                limit,
+            ),
             None => Err(DecideError::Refused(Refusal::NotFound)),
         },
         Draft::Delete {
@@ -90,10 +100,10 @@ fn insertion(
     ensures decided { Decides result (insertion rows.now form.now.kind parent.now (view form.now.body) id now limit) }
     ensures valid { IfOk result IsValidCommand }
 {
-    match place_of(rows, parent) {
-        Some(place) => {
+    match collection_of(rows, parent) {
+        Some(collection) => {
             let base = Base::New { id, now };
-            let above = link_of(&place);
+            let above = link_of(&collection);
             inserted(alloc, rows, form, &base, &above, limit)
         }
         None => Err(DecideError::Refused(Refusal::NotFound)),
@@ -113,9 +123,9 @@ fn patched(
     ensures decided { Decides result (patched rows.now kind parent.now select.now (view form.now.body) now) }
     ensures valid { AreValidRows rows.now → IfOk result IsValidCommand }
 {
-    match place_of(rows, parent) {
-        Some(place) => match present(rows, kind, &place, select) {
-            Some(old) => changed(alloc, rows, form, &link_of(&place), old, now),
+    match collection_of(rows, parent) {
+        Some(collection) => match present(rows, kind, &collection, select) {
+            Some(old) => changed(alloc, rows, form, &link_of(&collection), old, now),
             None => Err(DecideError::Refused(Refusal::NotFound)),
         },
         None => Err(DecideError::Refused(Refusal::NotFound)),
@@ -123,11 +133,16 @@ fn patched(
 }
 
 // The row that is meant, among those in a place; it is valid where all are.
-fn present<'r>(rows: &'r Rows, kind: Kind, place: &Place, select: &Select) -> Option<RowRef<'r>>
-    ensures row { option_map row_at result ≡ selected kind select.now (rows_in place.now rows.now) }
+fn present<'r>(
+    rows: &'r Rows,
+    kind: Kind,
+    collection: &Collection,
+    select: &Select,
+) -> Option<RowRef<'r>>
+    ensures row { option_map row_at result ≡ selected kind select.now (rows_in collection.now rows.now) }
     ensures valid { AreValidRows rows.now → IfSome result (λ row. IsValidRow (row_at row)) }
 {
-    selected_in(rows, kind, place, select)
+    selected_in(rows, kind, collection, select)
 }
 
 // The fields of a row that the form sets are changed.
@@ -153,7 +168,7 @@ fn put(
     alloc: Global,
     rows: &Rows,
     kind: Kind,
-    place: &Place,
+    collection: &Collection,
     select: &Select,
     form: &Form,
     id: Id,
@@ -161,11 +176,11 @@ fn put(
     limit: u32,
 ) -> Result<Command, DecideError>
     requires { form.now.kind ≡ kind }
-    ensures decided { Decides result (put_over rows.now kind select.now (view form.now.body) (link_of place.now) (record { id = id; now = now; limit = limit }) (selected kind select.now (rows_in place.now rows.now))) }
+    ensures decided { Decides result (put_over rows.now kind select.now (view form.now.body) (link_of collection.now) (record { id = id; now = now; limit = limit }) (selected kind select.now (rows_in collection.now rows.now))) }
     ensures valid { IfOk result IsValidCommand }
 {
-    let above = link_of(place);
-    match selected_in(rows, kind, place, select) {
+    let above = link_of(collection);
+    match selected_in(rows, kind, collection, select) {
         Some(old) => put_again(alloc, rows, form, &above, old, now),
         None => match base_by(alloc, kind, select, id, now) {
             Ok(Some(base)) => inserted(alloc, rows, form, &base, &above, limit),
@@ -207,8 +222,8 @@ fn deletion(
     ensures decided { Decides result (deletion rows.now kind parent.now select.now) }
     ensures valid { IfOk result IsValidCommand }
 {
-    match place_of(rows, parent) {
-        Some(place) => match selected_in(rows, kind, &place, select) {
+    match collection_of(rows, parent) {
+        Some(collection) => match selected_in(rows, kind, &collection, select) {
             Some(old) => deleted(alloc, rows, kind, old.id()),
             None => Err(DecideError::Refused(Refusal::NotFound)),
         },

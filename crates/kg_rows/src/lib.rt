@@ -5,11 +5,11 @@
 #![tactic(auto)]
 
 mod base;
+mod collection;
 mod decision;
 mod draft;
 mod find;
 mod pages;
-mod place;
 mod proposal;
 mod row_ref;
 mod select;

@@ -9,7 +9,7 @@ ghost use Rattle.kg_row_values.specs.InOrder.{in_order};
 ghost use Rattle.kg_rows.specs.Pages.{ids_above, ids_of, is_above, page_in, page_of};
 ghost use Rattle.kg_rows.specs.Selections.{found, row_with_id, rows_in, rows_under};
 
-use crate::place::{Place, place_of, row_in, selected_in};
+use crate::collection::{Collection, collection_of, row_in, selected_in};
 use crate::select::{Parent, Select};
 use crate::under::Below;
 use kg_entities::{Entity, Id, Kind, Row, Rows};
@@ -35,8 +35,8 @@ pub fn found(
 ) -> Result<Option<Entity>, NoMemory>
     ensures { IfOk result (λ row. row ≡ found kind parent.now select.now rows.now) }
 {
-    match place_of(rows, parent) {
-        Some(place) => match selected_in(rows, kind, &place, select) {
+    match collection_of(rows, parent) {
+        Some(collection) => match selected_in(rows, kind, &collection, select) {
             Some(row) => match row.copy(alloc) {
                 Ok(row) => Ok(Some(row)),
                 Err(NoMemory) => Err(NoMemory),
@@ -59,8 +59,8 @@ pub fn page_of(
 ) -> Result<Option<Page>, NoMemory>
     ensures { IfOk result (λ page. page ≡ page_of kind parent.now offset size rows.now) }
 {
-    match place_of(rows, parent) {
-        Some(place) => match page_in(alloc, rows, kind, &place, &offset, size) {
+    match collection_of(rows, parent) {
+        Some(collection) => match page_in(alloc, rows, kind, &collection, &offset, size) {
             Ok(page) => Ok(Some(page)),
             Err(NoMemory) => Err(NoMemory),
         },
@@ -72,13 +72,13 @@ fn page_in(
     alloc: Global,
     rows: &Rows,
     kind: Kind,
-    place: &Place,
+    collection: &Collection,
     offset: &Option<Id>,
     size: u32,
 ) -> Result<Page, NoMemory>
-    ensures { IfOk result (λ page. page ≡ page_in kind offset.now size (rows_in place.now rows.now)) }
+    ensures { IfOk result (λ page. page ≡ page_in kind offset.now size (rows_in collection.now rows.now)) }
 {
-    let ids = ids_above(alloc, rows, kind, place, offset)?;
+    let ids = ids_above(alloc, rows, kind, collection, offset)?;
     let all = ids.as_slice();
     let more = (size as usize) < all.len();
     let mut shown = List::new(alloc);
@@ -86,7 +86,7 @@ fn page_in(
         alloc,
         rows,
         kind,
-        place,
+        collection,
         first(all, size as usize),
         &mut shown,
     ) {
@@ -112,14 +112,14 @@ fn put_rows(
     alloc: Global,
     rows: &Rows,
     kind: Kind,
-    place: &Place,
+    collection: &Collection,
     ids: &[Id],
     shown: &mut List<Entity>,
 ) -> Result<(), NoMemory>
-    ensures { OnOk result (shown.new ≡ shown.old ++ flat_map (λ id. option_to_list (row_with_id kind id (rows_in place.now rows.now))) ids.now) }
+    ensures { OnOk result (shown.new ≡ shown.old ++ flat_map (λ id. option_to_list (row_with_id kind id (rows_in collection.now rows.now))) ids.now) }
 {
     for id in ids {
-        put_row(alloc, rows, kind, place, *id, shown)?;
+        put_row(alloc, rows, kind, collection, *id, shown)?;
     }
     Ok(())
 }
@@ -128,13 +128,13 @@ fn put_row(
     alloc: Global,
     rows: &Rows,
     kind: Kind,
-    place: &Place,
+    collection: &Collection,
     id: Id,
     shown: &mut List<Entity>,
 ) -> Result<(), NoMemory>
-    ensures { OnOk result (shown.new ≡ shown.old ++ option_to_list (row_with_id kind id (rows_in place.now rows.now))) }
+    ensures { OnOk result (shown.new ≡ shown.old ++ option_to_list (row_with_id kind id (rows_in collection.now rows.now))) }
 {
-    match row_in(rows, kind, place, id) {
+    match row_in(rows, kind, collection, id) {
         Some(row) => {
             shown.push(row.copy(alloc)?)?;
             Ok(())
@@ -148,12 +148,12 @@ fn ids_above(
     alloc: Global,
     rows: &Rows,
     kind: Kind,
-    place: &Place,
+    collection: &Collection,
     offset: &Option<Id>,
 ) -> Result<List<Id>, NoMemory>
-    ensures { IfOk result (λ ids. ids ≡ ids_above kind offset.now (rows_in place.now rows.now)) }
+    ensures { IfOk result (λ ids. ids ≡ ids_above kind offset.now (rows_in collection.now rows.now)) }
 {
-    let ids = id_set(alloc, rows, kind, place, offset)?;
+    let ids = id_set(alloc, rows, kind, collection, offset)?;
     listed(alloc, ids)
 }
 
@@ -161,13 +161,13 @@ fn id_set(
     alloc: Global,
     rows: &Rows,
     kind: Kind,
-    place: &Place,
+    collection: &Collection,
     offset: &Option<Id>,
 ) -> Result<BTreeSet<Id>, NoMemory>
-    ensures { IfOk result (λ ids. ids.keys ≡ fold (insert_key nat_cmp) [] (filter (is_above offset.now) (ids_of kind (rows_in place.now rows.now)))) }
+    ensures { IfOk result (λ ids. ids.keys ≡ fold (insert_key nat_cmp) [] (filter (is_above offset.now) (ids_of kind (rows_in collection.now rows.now)))) }
 {
     let mut ids = BTreeSet::new(alloc);
-    put_ids_in(rows, kind, place, offset, &mut ids)?;
+    put_ids_in(rows, kind, collection, offset, &mut ids)?;
     Ok(ids)
 }
 
@@ -184,15 +184,15 @@ fn listed(alloc: Global, ids: BTreeSet<Id>) -> Result<List<Id>, NoMemory>
 fn put_ids_in(
     rows: &Rows,
     kind: Kind,
-    place: &Place,
+    collection: &Collection,
     offset: &Option<Id>,
     ids: &mut BTreeSet<Id>,
 ) -> Result<(), NoMemory>
-    ensures { OnOk result (ids.new.keys ≡ fold (insert_key nat_cmp) ids.old.keys (filter (is_above offset.now) (ids_of kind (rows_in place.now rows.now)))) }
+    ensures { OnOk result (ids.new.keys ≡ fold (insert_key nat_cmp) ids.old.keys (filter (is_above offset.now) (ids_of kind (rows_in collection.now rows.now)))) }
 {
-    match place {
-        Place::Anywhere => put_all(rows, kind, offset, ids),
-        Place::Under { kind: upper, id } => put_under(rows, kind, *upper, *id, offset, ids),
+    match collection {
+        Collection::Anywhere => put_all(rows, kind, offset, ids),
+        Collection::Under { kind: upper, id } => put_under(rows, kind, *upper, *id, offset, ids),
     }
 }
 

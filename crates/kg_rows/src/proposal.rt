@@ -6,7 +6,7 @@ ghost use Rattle.kg_rows.specs.Decision.{IsRefusedBy, Decides, Refuses, conflict
 ghost use Rattle.kg_rows.specs.RowRefs.{row_at};
 ghost use Rattle.kg_row_making.specs.Bases.{base_of};
 ghost use Rattle.kg_row_types.specs.Entities.{id_of_row};
-ghost use Rattle.kg_schema.specs.Between.{faults_between};
+ghost use Rattle.kg_schema.specs.Between.{violations_between};
 ghost use Rattle.kg_schema.specs.Finished.{row_over};
 ghost use Rattle.kg_schema.specs.ValidBases.{IsValidBase};
 ghost use Rattle.kg_row_changes.specs.ValidCommands.{IsValidCommand};
@@ -141,8 +141,8 @@ fn finished(
     field: Option<ParentField>,
 ) -> Result<Entity, DecideError>
     ensures row { IfOk result (λ row. row ≡ row_over form.now.kind (view form.now.body) (base_of base.now) links.now) }
-    ensures valid { OnOk result (violation (faults_between form.now.kind (view form.now.body) (base_of base.now) links.now field) ≡ None) }
-    ensures refused { IfErr result (λ e. IsRefusedBy e (violation (faults_between form.now.kind (view form.now.body) (base_of base.now) links.now field))) }
+    ensures valid { OnOk result (violation (violations_between form.now.kind (view form.now.body) (base_of base.now) links.now field) ≡ None) }
+    ensures refused { IfErr result (λ e. IsRefusedBy e (violation (violations_between form.now.kind (view form.now.body) (base_of base.now) links.now field))) }
     ensures valid_row { IsValidBase form.now.kind (base_of base.now) → IfOk result IsValidRow }
 {
     match finish_under(alloc, form, base, links, field) {

@@ -7,7 +7,7 @@ ghost use Rattle.kg_row_types.specs.declared.entity.Kind.TheVariants as kind;
 ghost use Rattle.kg_rows.specs.RowRefs.{row_at};
 ghost use Rattle.kg_rows.specs.References.{contradicted_field, contradicts, dangling_field, fixed_links, is_dangling, is_missing, linked, links_in, links_of, target_id, target_if_set, targets_in};
 
-use crate::place::no_links;
+use crate::collection::no_links;
 use crate::row_ref::RowRef;
 use kg_entities::{Entity, Id, Kind, Rows};
 use kg_schema::{Form, Links, ParentField, Reference};

@@ -9,9 +9,9 @@ use Rattle.std.specs.Int.{is_in_range}
 use Rattle.std.specs.List.{ends_with, list_any, starts_with}
 use Rattle.std.specs.Str.{bytes_eq, str_to_ascii_lowercase}
 use Rattle.kg_text.specs.SameBytes.{same_bytes}
-use Rattle.kg_row_types.specs.Words.{has_host_form, has_length, has_route_host_form, has_wildcard_form, is_host_byte, is_kept_route_host, is_route_host}
+use Rattle.kg_row_types.specs.TextForms.{has_host_form, has_length, has_route_host_form, has_wildcard_form, is_host_byte, is_stored_route_host, is_route_host}
 use Rattle.kg_schema.proofs.ReadTexts.{Takes, bounded}
-use Rattle.kg_field_rules.specs.declared.word.Word.TheVariants as word
+use Rattle.kg_field_rules.specs.declared.text_kind.TextKind.TheVariants as text_kind
 
 -- equal bytes compare as equal
 same : (xs ys : List ℕ) → xs ≡ ys → bytes_eq xs ys ≡ true
@@ -105,10 +105,10 @@ lower_form text is = at_form (or_cases (has_host_form text) (has_wildcard_form t
     at_form (inl plain) = or_left (has_host_form (str_to_ascii_lowercase text)) (has_wildcard_form (str_to_ascii_lowercase text)) (lower_host text plain)
     at_form (inr wildcard) = or_right (has_host_form (str_to_ascii_lowercase text)) (has_wildcard_form (str_to_ascii_lowercase text)) (lower_wildcard text wildcard)
 
-pub takes_route_host : Takes word.RouteHost is_kept_route_host
+pub takes_route_host : Takes text_kind.RouteHost is_stored_route_host
 takes_route_host text ok =
     let low = str_to_ascii_lowercase text in
-    let parts = and_parts (has_length 255 text) (has_route_host_form text) (bounded word.RouteHost 255 refl text ok) in
+    let parts = and_parts (has_length 255 text) (has_route_host_form text) (bounded text_kind.RouteHost 255 refl text ok) in
     let long : has_length 255 low ≡ true = ap (λ n. nat_lt 0 n && nat_le n 255) (length-map text to_ascii_lowercase) ∙ parts.0 in
     and_from (is_route_host low) (bytes_eq (str_to_ascii_lowercase low) low)
     (and_from (has_length 255 low) (has_route_host_form low) long (lower_form text parts.1))

@@ -1,4 +1,4 @@
--- Who stands for requests without a consumer is kept as a free text, and an id is kept printed.
+-- Who stands for requests without a consumer is stored as a free text, and an id is stored printed.
 use Rattle.std.proofs.Common.{◌≡◌, ℕ, zero, suc, ◌+◌, ◌-◌, ◌*◌, ◌^◌, ◌<◌, ◌==◌, nat_lt, nat_le, if◌then◌else◌, Bool, true, false, not, ◌&&◌, List, [], ◌∷◌, ◌++◌, length, drop, take, slice_index, Option, Some, None, option_map, refl, ap, ◌∙◌, arith}
 use Rattle.std.proofs.lemmas.Bool.{and_from, and_parts, or_from, or_parts}
 use Rattle.std.proofs.lemmas.Bool.Decides.{nat_tests}
@@ -14,9 +14,9 @@ use Rattle.uuid.proofs.TextLemmas.{by_index_ascii, by_index_at, by_index_length,
 use Rattle.uuid.specs.Text.{by_index, byte_of_digits, digit_place, digits_of, has_hyphens, has_urn_prefix, hex_digit, hyphen, hyphenated_text, is_hex_digit, is_hyphen_place, lower, nibble, open_brace, close_brace, parsed, parsed_braced, parsed_hyphenated, parsed_simple, parsed_urn, value_of}
 use Rattle.kg_row_types.proofs.IdLemmas.{id_of-printed}
 use Rattle.kg_row_types.specs.Ids.{id_of, printed}
-use Rattle.kg_row_types.specs.Words.{has_length, has_no_controls, is_free_text, is_printed_if_id}
+use Rattle.kg_row_types.specs.TextForms.{has_length, has_no_controls, is_free_text, is_printed_if_id}
 use Rattle.kg_schema.proofs.ReadTexts.{Takes, bounded}
-use Rattle.kg_field_rules.specs.declared.word.Word.TheVariants as word
+use Rattle.kg_field_rules.specs.declared.text_kind.TextKind.TheVariants as text_kind
 
 -- ---- the id that a text tells fits 128 bits
 
@@ -120,14 +120,14 @@ printed_is_free id =
     let no_controls : has_no_controls text ≡ true = ap (λ cs. not (list_any is_control cs)) (chars-IsAscii text ascii) ∙ ap not none in
     and_from (has_length 255 text) (has_no_controls text) long no_controls
 
--- ---- what is kept
+-- ---- what is stored
 
-pub takes_anonymous : Takes word.Anonymous (λ text. is_free_text text && is_printed_if_id text)
+pub takes_anonymous : Takes text_kind.Anonymous (λ text. is_free_text text && is_printed_if_id text)
 takes_anonymous text ok = at_id (id_of text) refl (id_fits text)
   where
     at_id : (o : Option ℕ) → id_of text ≡ o → IfSome o (λ id. id < 2 ^ 128) → IsTrue (is_free_text (option_map_or printed o text) && is_printed_if_id (option_map_or printed o text))
     at_id None is fits =
-        and_from (is_free_text text) (is_printed_if_id text) (bounded word.Anonymous 255 refl text ok) (ap (λ o. option_map_or (λ id. bytes_eq text (printed id)) o true) is)
+        and_from (is_free_text text) (is_printed_if_id text) (bounded text_kind.Anonymous 255 refl text ok) (ap (λ o. option_map_or (λ id. bytes_eq text (printed id)) o true) is)
     at_id (Some id) is fits =
         and_from (is_free_text (printed id)) (is_printed_if_id (printed id)) (printed_is_free id)
         (ap (λ o. option_map_or (λ other. bytes_eq (printed id) (printed other)) o true) (id_of-printed id fits) ∙ (bytes_eq-Decides (printed id) (printed id)).1 refl)

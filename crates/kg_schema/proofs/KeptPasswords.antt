@@ -1,4 +1,4 @@
--- What is kept of a password is 64 hexadecimal digits in lower case.
+-- What is stored of a password is 64 hexadecimal digits in lower case.
 use Rattle.std.proofs.Common.{◌≡◌, ℕ, zero, suc, ◌*◌, ◌/◌, ◌%◌, ◌<◌, ◌==◌, nat_lt, Bool, true, ◌&&◌, ◌||◌, List, [], ◌∷◌, ◌++◌, length, slice_index, codes, refl, ◌∙◌, arith}
 use Rattle.std.proofs.lemmas.Bool.{agree_below_at, and_from, and_parts, ltb-true}
 use Rattle.std.proofs.lemmas.Bool.Decides.{nat_tests}
@@ -12,7 +12,7 @@ use Rattle.sha2.proofs.Facts256.{length-sha256}
 use Rattle.sha2.specs.Sha256.{digest_bytes, final_hash, initial_hash_256, sha256}
 use Rattle.kg_row_types.specs.Ids.{printed}
 use Rattle.kg_row_types.specs.StoredPassword.{stored_password}
-use Rattle.kg_row_types.specs.Words.{is_hash}
+use Rattle.kg_row_types.specs.TextForms.{is_hash}
 
 -- ---- bytes
 

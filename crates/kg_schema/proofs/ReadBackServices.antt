@@ -3,13 +3,13 @@ use Rattle.std.proofs.Common.{◌≡◌, ℕ, ◌≤◌, ◌/◌, List, [], Opti
 use Rattle.std.specs.Prelude.{IfSome}
 use Rattle.serde_json.specs.Data.{boolean, string}
 use Rattle.kg_row_types.specs.ValidRows.{IsValidService}
-use Rattle.kg_row_types.specs.Words.{is_name, is_normal_path}
+use Rattle.kg_row_types.specs.TextForms.{is_name, is_normal_path}
 use Rattle.kg_row_types.specs.declared.entity.Entity.{Entity}
 use Rattle.kg_row_types.specs.declared.entity.Entity.TheVariants as row
 use Rattle.kg_row_types.specs.declared.entity.Kind.TheVariants as kind
 use Rattle.kg_row_types.specs.declared.service.Service.{Service}
-use Rattle.kg_field_rules.specs.declared.word.Word.TheVariants as word
-use Rattle.kg_field_tables.specs.BrokenRules.{faults_in}
+use Rattle.kg_field_rules.specs.declared.text_kind.TextKind.TheVariants as text_kind
+use Rattle.kg_field_tables.specs.BrokenRules.{violations_in}
 use Rattle.kg_field_tables.specs.declared.table.Table.TheVariants as table
 use Rattle.kg_row_making.specs.Bases.{Again}
 use Rattle.kg_schema.proofs.ReadBackParts.{each_fits, Fits, fits_host, fits_name, fits_path, none_broken, option_inside, option_over, option_rule, printed_id, text_over, whole_over, whole_rule_ok}
@@ -19,16 +19,16 @@ use Rattle.kg_shown_rows.specs.Shown.{service_members, shown}
 use Rattle.kg_shown_rows.specs.ShownParts.{members_of, shown_id, shown_number, shown_text}
 
 module _ (service : Service) (valid : IsValidService service) where
-  name : IfSome service.name (Fits word.Name)
-  name = each_fits word.Name is_name fits_name service.name valid.name
+  name : IfSome service.name (Fits text_kind.Name)
+  name = each_fits text_kind.Name is_name fits_name service.name valid.name
 
-  path : IfSome service.path (Fits word.Path)
-  path = each_fits word.Path is_normal_path fits_path service.path valid.path
+  path : IfSome service.path (Fits text_kind.Path)
+  path = each_fits text_kind.Path is_normal_path fits_path service.path valid.path
 
   low : 0 ≤ service.retries
   low = omega arith
 
-  accepted : faults_in (members_of (service_members service)) table.Service [] ≡ []
+  accepted : violations_in (members_of (service_members service)) table.Service [] ≡ []
   accepted = none_broken table.Service [] (service_members service) (
     record { rule = refl; inside = refl },
     (
@@ -38,9 +38,9 @@ module _ (service : Service) (valid : IsValidService service) where
         (
           record { rule = printed_id service.id valid.id; inside = refl },
           (
-            record { rule = option_rule word.Name service.name name; inside = option_inside service.name _ _ },
+            record { rule = option_rule text_kind.Name service.name name; inside = option_inside service.name _ _ },
             (
-              record { rule = option_rule word.Path service.path path; inside = option_inside service.path _ _ },
+              record { rule = option_rule text_kind.Path service.path path; inside = option_inside service.path _ _ },
               (
                 record { rule = whole_rule_ok 1 65535 service.port valid.port.0 valid.port.1; inside = refl },
                 (
@@ -84,8 +84,8 @@ module _ (service : Service) (valid : IsValidService service) where
   unfolding row_over
   again now =
       same now service.name _ service.host _ service.port _ service.path _ service.retries _
-      (option_over word.Name service.name name) (text_over word.Host service.host [] (fits_host service.host valid.host)) (whole_over 1 65535 service.port 80 valid.port.0 valid.port.1)
-      (option_over word.Path service.path path) (whole_over 0 32767 service.retries 5 low valid.retries)
+      (option_over text_kind.Name service.name name) (text_over text_kind.Host service.host [] (fits_host service.host valid.host)) (whole_over 1 65535 service.port 80 valid.port.0 valid.port.1)
+      (option_over text_kind.Path service.path path) (whole_over 0 32767 service.retries 5 low valid.retries)
 
 pub service_read_back : (service : Service) → IsValidService service → IsReadBack (row.Service service)
 service_read_back service valid = record { accepted = accepted service valid; again = again service valid }

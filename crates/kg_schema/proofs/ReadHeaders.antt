@@ -23,8 +23,8 @@ use Rattle.serde_json.specs.Find.{as_object, as_str}
 use Rattle.kg_text.proofs.NameLemmas.{IsName-lower}
 use Rattle.kg_text.specs.Names.{is_token}
 use Rattle.kg_row_types.specs.ValidRows.{IsValidHeaderTest}
-use Rattle.kg_row_types.specs.Words.{is_free_text, is_list_of}
-use Rattle.kg_row_types.specs.Words.{is_set as is_some_set}
+use Rattle.kg_row_types.specs.TextForms.{is_free_text, is_list_of}
+use Rattle.kg_row_types.specs.TextForms.{is_set as is_some_set}
 use Rattle.kg_row_types.specs.declared.route.HeaderTest.{HeaderTest}
 use Rattle.kg_schema.proofs.ReadTexts.{list_ok, takes_free_text}
 use Rattle.kg_bodies.proofs.ListLemmas.{header_parts}
@@ -32,7 +32,7 @@ use Rattle.kg_field_tables.specs.Judging.{each_text, header_rule, is_header, is_
 use Rattle.kg_bodies.specs.Settings.{test_of, tests_at, tests_in, value_at, with_test}
 use Rattle.kg_field_rules.specs.declared.rule.Rule.{Rule}
 use Rattle.kg_field_tables.specs.declared.shape.Shape.TheVariants as shape
-use Rattle.kg_field_rules.specs.declared.word.Word.TheVariants as word
+use Rattle.kg_field_rules.specs.declared.text_kind.TextKind.TheVariants as text_kind
 
 -- ---- one header
 
@@ -55,15 +55,15 @@ texts_of_set (array (item first rest)) texts set is = at_first (as_str first) (e
     at_first (Some text) (Some more) found e = let same : text ∷ more ≡ found = cc in subst (λ (xs : List (List ℕ)). nat_lt 0 (length xs) ≡ true) same (some_more text more)
 
 -- the texts of values that break no rule
-values_ok : (d : Data) → is_set d ≡ true → typed (list_rule word.FreeText) (texts_of d) ≡ None
+values_ok : (d : Data) → is_set d ≡ true → typed (list_rule text_kind.FreeText) (texts_of d) ≡ None
     → IsTrue (is_list_of is_free_text (unwrap_or (texts_of d) []) && is_some_set (unwrap_or (texts_of d) []))
 values_ok d set ok = at_texts (texts_of d) refl ok
   where
-    at_texts : (o : Option (List (List ℕ))) → texts_of d ≡ o → typed (list_rule word.FreeText) o ≡ None → IsTrue (is_list_of is_free_text (unwrap_or o []) && is_some_set (unwrap_or o []))
+    at_texts : (o : Option (List (List ℕ))) → texts_of d ≡ o → typed (list_rule text_kind.FreeText) o ≡ None → IsTrue (is_list_of is_free_text (unwrap_or o []) && is_some_set (unwrap_or o []))
     at_texts None is none = cc
     at_texts (Some texts) is none =
         and_from (is_list_of is_free_text texts) (is_some_set texts)
-        (ap (is_list_of is_free_text) (sym (map-id texts)) ∙ list_ok word.FreeText is_free_text takes_free_text texts none)
+        (ap (is_list_of is_free_text) (sym (map-id texts)) ∙ list_ok text_kind.FreeText is_free_text takes_free_text texts none)
         (texts_of_set d texts set is)
 
 abbrev test_made : List ℕ → Data → HeaderTest
@@ -76,7 +76,7 @@ test_of_ok name d = at_set (is_set d) refl
     none_told None none = refl
     none_told (Some rule) none = cc
 
-    made : is_set d ≡ true → typed (list_rule word.FreeText) (texts_of d) ≡ None → is_header name ≡ true → IsValidHeaderTest (test_made name d)
+    made : is_set d ≡ true → typed (list_rule text_kind.FreeText) (texts_of d) ≡ None → is_header name ≡ true → IsValidHeaderTest (test_made name d)
     made set values header = record {
       form = IsName-lower name (and_parts (is_token name) (not (bytes_eq (str_to_ascii_lowercase name) (codes "host"))) header).0;
       name = (and_parts (is_token name) (not (bytes_eq (str_to_ascii_lowercase name) (codes "host"))) header).1;

@@ -5,9 +5,9 @@ use Rattle.std.proofs.lemmas.Bool.Decides.{nat_tests}
 use Rattle.std.specs.Option.{option_or}
 use Rattle.std.specs.Prelude.{IfSome, IsTrue}
 use Rattle.serde_json.specs.Data.{Data}
-use Rattle.kg_row_types.specs.ConfigWords.{is_edit, is_header_edit, is_header_rename, is_ipv4_block, is_key_name}
+use Rattle.kg_row_types.specs.ConfigTexts.{is_edit, is_header_edit, is_header_rename, is_ipv4_block, is_key_name}
 use Rattle.kg_row_types.specs.ValidRows.{IsAnonymous, IsLimit, IsValidAclConfig, IsValidBasicAuth, IsValidConfig, IsValidCors, IsValidIpRestriction, IsValidKeyAuth, IsValidRateLimiting, IsValidRequestTransformer, IsValidResponseTransformer, IsValidSizeLimit, IsValidTermination, are_edits}
-use Rattle.kg_row_types.specs.Words.{is_free_text, is_list_of, is_method, is_printed_if_id, is_text_within}
+use Rattle.kg_row_types.specs.TextForms.{is_free_text, is_list_of, is_method, is_printed_if_id, is_text_within}
 use Rattle.kg_row_types.specs.declared.config.Acl.{Acl}
 use Rattle.kg_row_types.specs.declared.config.BasicAuth.{BasicAuth}
 use Rattle.kg_row_types.specs.declared.config.Config.{Config}
@@ -27,12 +27,12 @@ use Rattle.kg_schema.proofs.KeptIds.{takes_anonymous}
 use Rattle.kg_schema.proofs.ReadNumbers.{whole_ok}
 use Rattle.kg_schema.proofs.ReadTexts.{Takes, takes_block, takes_edit, takes_free_text, takes_header_edit, takes_header_rename, takes_key_name, takes_long_text, takes_method, text_ok, texts_ok}
 use Rattle.kg_schema.proofs.ValidParts.{list_over_ok, neither, not_broken, or_ok, unwrapped_ok}
-use Rattle.kg_schema.specs.Between.{config_faults, fault_if, groups_faults, has_both, has_neither, ip_restriction_faults, rate_limiting_faults, termination_faults}
+use Rattle.kg_schema.specs.Between.{config_violations, violation_if, groups_violations, has_both, has_neither, ip_restriction_violations, rate_limiting_violations, termination_violations}
 use Rattle.kg_row_making.specs.FinishedConfigs.{basic_auth_over, config_over, cors_over, default_config, edits_over, groups_over, ip_restriction_over, key_auth_over, limit_at, rate_limiting_over, request_transformer_over, response_transformer_over, size_limit_over, termination_over}
 use Rattle.kg_bodies.specs.Settings.{inside, text_at, texts_at, whole_at}
 use Rattle.kg_field_rules.specs.declared.rule.Rule.TheVariants.{Exclusive, Required}
-use Rattle.kg_field_rules.specs.declared.word.Word.{Word}
-use Rattle.kg_field_rules.specs.declared.word.Word.TheVariants as word
+use Rattle.kg_field_rules.specs.declared.text_kind.TextKind.{TextKind}
+use Rattle.kg_field_rules.specs.declared.text_kind.TextKind.TheVariants as text_kind
 
 abbrev IsListOf : (List ℕ → Bool) → List (List ℕ) → Type 0
 IsListOf test texts = IsTrue (is_list_of test texts)
@@ -41,7 +41,7 @@ abbrev IsFree : List ℕ → Type 0
 IsFree text = IsTrue (is_free_text text)
 
 -- a list that a body sets, or the one that stood there
-list_ok : (kind : Word) (test : List ℕ → Bool) → Takes kind test → (name : List ℕ) (config : Data) (before : List (List ℕ)) → IsListOf test before
+list_ok : (kind : TextKind) (test : List ℕ → Bool) → Takes kind test → (name : List ℕ) (config : Data) (before : List (List ℕ)) → IsListOf test before
     → IsListOf test (if length (texts_at kind name config) == 0 then before else texts_at kind name config)
 list_ok kind test takes name config before old = list_over_ok (IsListOf test) (texts_at kind name config) before (texts_ok kind test takes name config) old
 
@@ -83,12 +83,12 @@ cors_ok config before old =
     let methods = and_parts (is_list_of is_method before.methods) (nat_lt 0 (length before.methods)) old.methods in
     let after = cors_over config before in
     record {
-      origins = list_ok word.FreeText is_free_text takes_free_text (codes "origins") config before.origins old.origins;
+      origins = list_ok text_kind.FreeText is_free_text takes_free_text (codes "origins") config before.origins old.origins;
       methods = and_from (is_list_of is_method after.methods) (nat_lt 0 (length after.methods))
-          (list_ok word.Method is_method takes_method (codes "methods") config before.methods methods.0)
-          (still_set (texts_at word.Method (codes "methods") config) before.methods methods.1);
-      headers = list_ok word.FreeText is_free_text takes_free_text (codes "headers") config before.headers old.headers;
-      exposed_headers = list_ok word.FreeText is_free_text takes_free_text (codes "exposed_headers") config before.exposed_headers old.exposed_headers;
+          (list_ok text_kind.Method is_method takes_method (codes "methods") config before.methods methods.0)
+          (still_set (texts_at text_kind.Method (codes "methods") config) before.methods methods.1);
+      headers = list_ok text_kind.FreeText is_free_text takes_free_text (codes "headers") config before.headers old.headers;
+      exposed_headers = list_ok text_kind.FreeText is_free_text takes_free_text (codes "exposed_headers") config before.exposed_headers old.exposed_headers;
       max_age = or_ok (λ n. n ≤ 1000000000) (whole_at 0 1000000000 (codes "max_age") config) before.max_age (within (whole_at 0 1000000000 (codes "max_age") config) (whole_ok 0 1000000000 (codes "max_age") config)) old.max_age;
     }
   where
@@ -96,9 +96,9 @@ cors_ok config before old =
     within None ok = tt
     within (Some n) ok = ok.1
 
-anonymous_ok : (config : Data) (before : Option (List ℕ)) → IsAnonymous before → IsAnonymous (option_or (text_at word.Anonymous (codes "anonymous") config) before)
+anonymous_ok : (config : Data) (before : Option (List ℕ)) → IsAnonymous before → IsAnonymous (option_or (text_at text_kind.Anonymous (codes "anonymous") config) before)
 anonymous_ok config before old =
-    or_ok (λ text. IsTrue (is_free_text text && is_printed_if_id text)) (text_at word.Anonymous (codes "anonymous") config) before (text_ok word.Anonymous (λ text. is_free_text text && is_printed_if_id text) takes_anonymous (codes "anonymous") config) old
+    or_ok (λ text. IsTrue (is_free_text text && is_printed_if_id text)) (text_at text_kind.Anonymous (codes "anonymous") config) before (text_ok text_kind.Anonymous (λ text. is_free_text text && is_printed_if_id text) takes_anonymous (codes "anonymous") config) old
 
 key_auth_ok : (config : Data) (before : KeyAuth) → IsValidKeyAuth before → IsValidKeyAuth (key_auth_over config before)
 key_auth_ok config before old =
@@ -106,8 +106,8 @@ key_auth_ok config before old =
     let after = key_auth_over config before in
     record {
       key_names = and_from (is_list_of is_key_name after.key_names) (nat_lt 0 (length after.key_names))
-          (list_ok word.Token is_key_name takes_key_name (codes "key_names") config before.key_names names.0)
-          (still_set (texts_at word.Token (codes "key_names") config) before.key_names names.1);
+          (list_ok text_kind.Token is_key_name takes_key_name (codes "key_names") config before.key_names names.0)
+          (still_set (texts_at text_kind.Token (codes "key_names") config) before.key_names names.1);
       anonymous = anonymous_ok config before.anonymous old.anonymous;
     }
 
@@ -119,12 +119,12 @@ pub record AreBlocks (config : IpRestriction) : Type 0 where
   allow : IsListOf is_ipv4_block config.allow
   deny : IsListOf is_ipv4_block config.deny
 
-ip_restriction_ok : (config : Data) (before : IpRestriction) → AreBlocks before → ip_restriction_faults (ip_restriction_over config before) ≡ [] → IsValidIpRestriction (ip_restriction_over config before)
+ip_restriction_ok : (config : Data) (before : IpRestriction) → AreBlocks before → ip_restriction_violations (ip_restriction_over config before) ≡ [] → IsValidIpRestriction (ip_restriction_over config before)
 ip_restriction_ok config before old none =
     let after = ip_restriction_over config before in
     record {
-      allow = list_ok word.AddressBlock is_ipv4_block takes_block (codes "allow") config before.allow old.allow;
-      deny = list_ok word.AddressBlock is_ipv4_block takes_block (codes "deny") config before.deny old.deny;
+      allow = list_ok text_kind.AddressBlock is_ipv4_block takes_block (codes "allow") config before.allow old.allow;
+      deny = list_ok text_kind.AddressBlock is_ipv4_block takes_block (codes "deny") config before.deny old.deny;
       known = one_set (length after.allow) (length after.deny) (not_broken (has_neither after.allow after.deny) (codes "config.allow") Required none);
     }
 
@@ -138,13 +138,13 @@ pub record AreGroups (config : Acl) : Type 0 where
   allow : IsListOf is_free_text config.allow
   deny : IsListOf is_free_text config.deny
 
-groups_ok : (config : Data) (before : Acl) → AreGroups before → groups_faults (groups_over config before) ≡ [] → IsValidAclConfig (groups_over config before)
+groups_ok : (config : Data) (before : Acl) → AreGroups before → groups_violations (groups_over config before) ≡ [] → IsValidAclConfig (groups_over config before)
 groups_ok config before old none =
     let after = groups_over config before in
-    let told = neither (fault_if (has_both after.allow after.deny) (codes "config.allow") Exclusive) (fault_if (has_neither after.allow after.deny) (codes "config.allow") Required) none in
+    let told = neither (violation_if (has_both after.allow after.deny) (codes "config.allow") Exclusive) (violation_if (has_neither after.allow after.deny) (codes "config.allow") Required) none in
     record {
-      allow = list_ok word.FreeText is_free_text takes_free_text (codes "allow") config before.allow old.allow;
-      deny = list_ok word.FreeText is_free_text takes_free_text (codes "deny") config before.deny old.deny;
+      allow = list_ok text_kind.FreeText is_free_text takes_free_text (codes "allow") config before.allow old.allow;
+      deny = list_ok text_kind.FreeText is_free_text takes_free_text (codes "deny") config before.deny old.deny;
       known = one_set (length after.allow) (length after.deny) (not_broken (has_neither after.allow after.deny) (codes "config.allow") Required told.1);
       exclusive = not_both (length after.allow) (length after.deny) (not_broken (has_both after.allow after.deny) (codes "config.allow") Exclusive told.0);
     }
@@ -166,7 +166,7 @@ any_known false false true d some = refl
 any_known false false false true some = refl
 any_known false false false false some = cc
 
-rate_limiting_ok : (config : Data) (before : RateLimiting) → AreLimits before → rate_limiting_faults (rate_limiting_over config before) ≡ [] → IsValidRateLimiting (rate_limiting_over config before)
+rate_limiting_ok : (config : Data) (before : RateLimiting) → AreLimits before → rate_limiting_violations (rate_limiting_over config before) ≡ [] → IsValidRateLimiting (rate_limiting_over config before)
 rate_limiting_ok config before old none =
     let after = rate_limiting_over config before in
     record {
@@ -181,29 +181,29 @@ rate_limiting_ok config before old none =
 abbrev edits : List (List ℕ) → List (List ℕ) → Edits
 edits headers querystring = record { headers = headers; querystring = querystring }
 
-edits_ok : (kind : Word) (test : List ℕ → Bool) → Takes kind test → (step : Data) (before : Edits) → IsTrue (are_edits test before) → IsTrue (are_edits test (edits_over kind step before))
-edits_ok kind test takes step before old = at_empty (length (texts_at kind (codes "headers") step) == 0 && length (texts_at word.Edit (codes "querystring") step) == 0)
+edits_ok : (kind : TextKind) (test : List ℕ → Bool) → Takes kind test → (step : Data) (before : Edits) → IsTrue (are_edits test before) → IsTrue (are_edits test (edits_over kind step before))
+edits_ok kind test takes step before old = at_empty (length (texts_at kind (codes "headers") step) == 0 && length (texts_at text_kind.Edit (codes "querystring") step) == 0)
   where
-    at_empty : (b : Bool) → IsTrue (are_edits test (if b then before else edits (texts_at kind (codes "headers") step) (texts_at word.Edit (codes "querystring") step)))
+    at_empty : (b : Bool) → IsTrue (are_edits test (if b then before else edits (texts_at kind (codes "headers") step) (texts_at text_kind.Edit (codes "querystring") step)))
     at_empty true = old
-    at_empty false = and_from (is_list_of test (texts_at kind (codes "headers") step)) (is_list_of is_edit (texts_at word.Edit (codes "querystring") step)) (texts_ok kind test takes (codes "headers") step) (texts_ok word.Edit is_edit takes_edit (codes "querystring") step)
+    at_empty false = and_from (is_list_of test (texts_at kind (codes "headers") step)) (is_list_of is_edit (texts_at text_kind.Edit (codes "querystring") step)) (texts_ok kind test takes (codes "headers") step) (texts_ok text_kind.Edit is_edit takes_edit (codes "querystring") step)
 
 request_transformer_ok : (config : Data) (before : RequestTransformer) → IsValidRequestTransformer before → IsValidRequestTransformer (request_transformer_over config before)
 request_transformer_ok config before old = record {
-  remove = edits_ok word.HeaderEdit is_header_edit takes_header_edit (inside (codes "remove") config) before.remove old.remove;
-  rename = edits_ok word.HeaderRename is_header_rename takes_header_rename (inside (codes "rename") config) before.rename old.rename;
-  replace = edits_ok word.HeaderEdit is_header_edit takes_header_edit (inside (codes "replace") config) before.replace old.replace;
-  add = edits_ok word.HeaderEdit is_header_edit takes_header_edit (inside (codes "add") config) before.add old.add;
-  append = edits_ok word.HeaderEdit is_header_edit takes_header_edit (inside (codes "append") config) before.append old.append;
+  remove = edits_ok text_kind.HeaderEdit is_header_edit takes_header_edit (inside (codes "remove") config) before.remove old.remove;
+  rename = edits_ok text_kind.HeaderRename is_header_rename takes_header_rename (inside (codes "rename") config) before.rename old.rename;
+  replace = edits_ok text_kind.HeaderEdit is_header_edit takes_header_edit (inside (codes "replace") config) before.replace old.replace;
+  add = edits_ok text_kind.HeaderEdit is_header_edit takes_header_edit (inside (codes "add") config) before.add old.add;
+  append = edits_ok text_kind.HeaderEdit is_header_edit takes_header_edit (inside (codes "append") config) before.append old.append;
 }
 
 response_transformer_ok : (config : Data) (before : ResponseTransformer) → IsValidResponseTransformer before → IsValidResponseTransformer (response_transformer_over config before)
 response_transformer_ok config before old = record {
-  remove = list_ok word.HeaderEdit is_header_edit takes_header_edit (codes "headers") (inside (codes "remove") config) before.remove old.remove;
-  rename = list_ok word.HeaderRename is_header_rename takes_header_rename (codes "headers") (inside (codes "rename") config) before.rename old.rename;
-  replace = list_ok word.HeaderEdit is_header_edit takes_header_edit (codes "headers") (inside (codes "replace") config) before.replace old.replace;
-  add = list_ok word.HeaderEdit is_header_edit takes_header_edit (codes "headers") (inside (codes "add") config) before.add old.add;
-  append = list_ok word.HeaderEdit is_header_edit takes_header_edit (codes "headers") (inside (codes "append") config) before.append old.append;
+  remove = list_ok text_kind.HeaderEdit is_header_edit takes_header_edit (codes "headers") (inside (codes "remove") config) before.remove old.remove;
+  rename = list_ok text_kind.HeaderRename is_header_rename takes_header_rename (codes "headers") (inside (codes "rename") config) before.rename old.rename;
+  replace = list_ok text_kind.HeaderEdit is_header_edit takes_header_edit (codes "headers") (inside (codes "replace") config) before.replace old.replace;
+  add = list_ok text_kind.HeaderEdit is_header_edit takes_header_edit (codes "headers") (inside (codes "add") config) before.add old.add;
+  append = list_ok text_kind.HeaderEdit is_header_edit takes_header_edit (codes "headers") (inside (codes "append") config) before.append old.append;
 }
 
 -- the fields of a reply, before it is judged which of them stand together
@@ -213,15 +213,15 @@ pub record AreReplyFields (config : Termination) : Type 0 where
   body : IfSome config.body (λ text. IsTrue (is_text_within 65536 text))
   content_type : IfSome config.content_type IsFree
 
-termination_ok : (config : Data) (before : Termination) → AreReplyFields before → termination_faults (termination_over config before) ≡ [] → IsValidTermination (termination_over config before)
+termination_ok : (config : Data) (before : Termination) → AreReplyFields before → termination_violations (termination_over config before) ≡ [] → IsValidTermination (termination_over config before)
 termination_ok config before old none =
     let after = termination_over config before in
-    let told = neither (fault_if (is_some after.message && is_some after.body) (codes "config.message") Exclusive) (fault_if (is_some after.content_type && is_none after.body) (codes "config.body") Required) none in
+    let told = neither (violation_if (is_some after.message && is_some after.body) (codes "config.message") Exclusive) (violation_if (is_some after.content_type && is_none after.body) (codes "config.body") Required) none in
     record {
       status_code = unwrapped_ok (λ n. (200 ≤ n) × (n ≤ 599)) (whole_at 200 599 (codes "status_code") config) before.status_code (whole_ok 200 599 (codes "status_code") config) old.status_code;
-      message = or_ok IsFree (text_at word.FreeText (codes "message") config) before.message (text_ok word.FreeText is_free_text takes_free_text (codes "message") config) old.message;
-      body = or_ok (λ text. IsTrue (is_text_within 65536 text)) (text_at word.LongText (codes "body") config) before.body (text_ok word.LongText (is_text_within 65536) takes_long_text (codes "body") config) old.body;
-      content_type = or_ok IsFree (text_at word.FreeText (codes "content_type") config) before.content_type (text_ok word.FreeText is_free_text takes_free_text (codes "content_type") config) old.content_type;
+      message = or_ok IsFree (text_at text_kind.FreeText (codes "message") config) before.message (text_ok text_kind.FreeText is_free_text takes_free_text (codes "message") config) old.message;
+      body = or_ok (λ text. IsTrue (is_text_within 65536 text)) (text_at text_kind.LongText (codes "body") config) before.body (text_ok text_kind.LongText (is_text_within 65536) takes_long_text (codes "body") config) old.body;
+      content_type = or_ok IsFree (text_at text_kind.FreeText (codes "content_type") config) before.content_type (text_ok text_kind.FreeText is_free_text takes_free_text (codes "content_type") config) old.content_type;
       exclusive = apart (is_some after.message) (is_some after.body) (not_broken (is_some after.message && is_some after.body) (codes "config.message") Exclusive told.0);
       with_body = goes_with (is_some after.content_type) (is_some after.body) (not_broken (is_some after.content_type && is_none after.body) (codes "config.body") Required told.1);
     }
@@ -275,7 +275,7 @@ default_before plugin.RequestTransformer = record { remove = refl; rename = refl
 default_before plugin.ResponseTransformer = record { remove = refl; rename = refl; replace = refl; add = refl; append = refl }
 default_before plugin.RequestTermination = record { status_code = (omega arith, omega arith); message = tt; body = tt; content_type = tt }
 
-pub config_ok : (config : Data) (before : Config) → IsConfigBefore before → config_faults (config_over config before) ≡ [] → IsValidConfig (config_over config before)
+pub config_ok : (config : Data) (before : Config) → IsConfigBefore before → config_violations (config_over config before) ≡ [] → IsValidConfig (config_over config before)
 config_ok config (config_of.Cors before) old none = cors_ok config before old
 config_ok config (config_of.KeyAuth before) old none = key_auth_ok config before old
 config_ok config (config_of.BasicAuth before) old none = basic_auth_ok config before old

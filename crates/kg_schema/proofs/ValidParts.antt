@@ -2,9 +2,9 @@
 use Rattle.std.proofs.Common.{◌≡◌, ◌⊎◌, inl, inr, ℕ, ◌==◌, if◌then◌else◌, Bool, true, false, List, [], ◌∷◌, ◌++◌, length, Option, Some, None, unwrap_or, refl}
 use Rattle.std.specs.Option.{option_or}
 use Rattle.std.specs.Prelude.{IfSome}
-use Rattle.kg_schema.specs.Between.{fault_if}
+use Rattle.kg_schema.specs.Between.{violation_if}
 use Rattle.kg_row_making.specs.FinishedConfigs.{list_over}
-use Rattle.kg_field_rules.specs.Rules.{Fault}
+use Rattle.kg_field_rules.specs.Rules.{BrokenRule}
 use Rattle.kg_field_rules.specs.declared.rule.Rule.{Rule}
 
 pub or_ok : {A : Type 0} (P : A → Type 0) (set before : Option A) → IfSome set P → IfSome before P → IfSome (option_or set before) P
@@ -25,12 +25,12 @@ list_over_ok {A = A} P set before ok old = at_empty (length set == 0)
 -- ---- rules that are told
 
 -- nothing is told by two lists, so by neither
-pub neither : (faults more : List Fault) → faults ++ more ≡ [] → (faults ≡ []) × (more ≡ [])
+pub neither : (violations more : List BrokenRule) → violations ++ more ≡ [] → (violations ≡ []) × (more ≡ [])
 neither [] more none = (refl, none)
-neither (fault ∷ faults) more none = cc
+neither (violation ∷ violations) more none = cc
 
 -- a rule that isn't told isn't broken
-pub not_broken : (broken : Bool) (field : List ℕ) (rule : Rule) → fault_if broken field rule ≡ [] → broken ≡ false
+pub not_broken : (broken : Bool) (field : List ℕ) (rule : Rule) → violation_if broken field rule ≡ [] → broken ≡ false
 not_broken true field rule none = cc
 not_broken false field rule none = refl
 

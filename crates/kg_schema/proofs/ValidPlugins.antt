@@ -11,10 +11,10 @@ use Rattle.kg_schema.proofs.ValidConfigs.{IsConfigBefore, config_ok, default_bef
 use Rattle.kg_schema.proofs.ValidIds.{stamps_ok}
 use Rattle.kg_schema.proofs.ValidParts.{neither, not_broken, or_ok}
 use Rattle.kg_row_making.specs.Bases.{BaseValue, New, Again, Word, Old, stamps_of}
-use Rattle.kg_schema.specs.Between.{config_faults, fault_if, known_plugin_faults, old_plugin, plugin_faults, unnamed_config_faults}
+use Rattle.kg_schema.specs.Between.{config_violations, violation_if, known_plugin_violations, old_plugin, plugin_violations, unnamed_config_violations}
 use Rattle.kg_field_tables.specs.BrokenRules.{named_plugin}
 use Rattle.kg_schema.specs.Finished.{plugin_before, plugin_over}
-use Rattle.kg_field_rules.specs.Rules.{Fault}
+use Rattle.kg_field_rules.specs.Rules.{BrokenRule}
 use Rattle.kg_bodies.specs.Settings.{inside}
 use Rattle.kg_schema.specs.ValidBases.{AreIds, HasId, IsValidBase}
 use Rattle.kg_row_making.specs.declared.base.Links.{Links}
@@ -44,9 +44,9 @@ before_ok (Old (row.Plugin old) now) stamps body ok = valid_before old.config ok
 before_ok (Old old now) stamps body ok = default_before (unwrap_or (named_plugin body) plugin.Cors)
 
 -- where nothing is told of a plugin, its name is known
-known : (nameless : Bool) (faults : List Fault) → (if nameless then (codes "name", Required) ∷ [] else faults) ≡ [] → faults ≡ []
-known true faults none = cc
-known false faults none = none
+known : (nameless : Bool) (violations : List BrokenRule) → (if nameless then (codes "name", Required) ∷ [] else violations) ≡ [] → violations ≡ []
+known true violations none = cc
+known false violations none = none
 
 free : (barred named : Bool) → (barred && named) ≡ false → (not named || not barred) ≡ true
 free true true ok = cc
@@ -54,12 +54,12 @@ free true false ok = refl
 free false true ok = refl
 free false false ok = refl
 
-over_ok : (body : Data) (base : BaseValue) (links : Links) (before : PluginRow) → AreIds links → HasIds before → IsConfigBefore before.config → plugin_faults body base (plugin_over body links before) ≡ [] → IsValidPlugin (plugin_over body links before)
+over_ok : (body : Data) (base : BaseValue) (links : Links) (before : PluginRow) → AreIds links → HasIds before → IsConfigBefore before.config → plugin_violations body base (plugin_over body links before) ≡ [] → IsValidPlugin (plugin_over body links before)
 over_ok body base links before ids own old none =
     let after = plugin_over body links before in
-    let waited = neither (unnamed_config_faults body base) (if is_none (named_plugin body) && is_none (old_plugin base) then (codes "name", Required) ∷ [] else known_plugin_faults after) none in
-    let all = known (is_none (named_plugin body) && is_none (old_plugin base)) (known_plugin_faults after) waited.1 in
-    let told = neither (fault_if (is_for_no_consumer after.config && is_some after.scope.consumer) (codes "consumer") Fixed) (config_faults after.config) all in
+    let waited = neither (unnamed_config_violations body base) (if is_none (named_plugin body) && is_none (old_plugin base) then (codes "name", Required) ∷ [] else known_plugin_violations after) none in
+    let all = known (is_none (named_plugin body) && is_none (old_plugin base)) (known_plugin_violations after) waited.1 in
+    let told = neither (violation_if (is_for_no_consumer after.config && is_some after.scope.consumer) (codes "consumer") Fixed) (config_violations after.config) all in
     record {
       id = own.id;
       scope = record {
@@ -72,7 +72,7 @@ over_ok body base links before ids own old none =
     }
 
 pub plugin_ok : (body : Data) (base : BaseValue) (links : Links) → HasId base → AreIds links → IsValidBase kind.Plugin base
-    → plugin_faults body base (plugin_over body links (plugin_before base (stamps_of base body) body)) ≡ []
+    → plugin_violations body base (plugin_over body links (plugin_before base (stamps_of base body) body)) ≡ []
     → IsValidPlugin (plugin_over body links (plugin_before base (stamps_of base body) body))
 plugin_ok body base links is ids ok none =
     over_ok body base links (plugin_before base (stamps_of base body) body) ids (ids_ok base (stamps_of base body) body (stamps_ok kind.Plugin body base is ok) ok) (before_ok base (stamps_of base body) body ok) none

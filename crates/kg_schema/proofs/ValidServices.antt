@@ -4,7 +4,7 @@ use Rattle.std.specs.Prelude.{IfSome, IsTrue}
 use Rattle.serde_json.specs.Data.{Data}
 use Rattle.kg_row_types.specs.Ids.{IsId}
 use Rattle.kg_row_types.specs.ValidRows.{IsValidService}
-use Rattle.kg_row_types.specs.Words.{is_host, is_name, is_normal_path}
+use Rattle.kg_row_types.specs.TextForms.{is_host, is_name, is_normal_path}
 use Rattle.kg_row_types.specs.declared.entity.Entity.TheVariants as row
 use Rattle.kg_row_types.specs.declared.entity.Kind.TheVariants as kind
 use Rattle.kg_row_types.specs.declared.service.Service.{Service}
@@ -14,14 +14,14 @@ use Rattle.kg_schema.proofs.ReadUrls.{IsAddress, url_ok}
 use Rattle.kg_schema.proofs.ValidIds.{stamps_ok}
 use Rattle.kg_schema.proofs.ValidParts.{OrEmpty, filled, neither, not_broken, or_ok, unwrapped_ok}
 use Rattle.kg_row_making.specs.Bases.{BaseValue, New, Again, Word, Old, stamps_of}
-use Rattle.kg_schema.specs.Between.{doubles_url, fault_if, service_faults}
+use Rattle.kg_schema.specs.Between.{doubles_url, violation_if, service_violations}
 use Rattle.kg_schema.specs.Finished.{address_over, service_before, service_over}
 use Rattle.kg_bodies.specs.Settings.{text_at, url_at, whole_at}
 use Rattle.kg_schema.specs.ValidBases.{HasId, IsValidBase}
 use Rattle.kg_row_making.specs.declared.base.Stamps.{Stamps}
 use Rattle.kg_field_rules.specs.declared.rule.Rule.TheVariants.{Exclusive, Required}
 use Rattle.kg_field_rules.specs.declared.url.Url.{Url}
-use Rattle.kg_field_rules.specs.declared.word.Word.TheVariants as word
+use Rattle.kg_field_rules.specs.declared.text_kind.TextKind.TheVariants as text_kind
 
 abbrev IsName : List ℕ → Type 0
 IsName text = IsTrue (is_name text)
@@ -50,7 +50,7 @@ record AreFields (service : Service) : Type 0 where
 before_ok : (base : BaseValue) (stamps : Stamps) → IsId stamps.id → IsValidBase kind.Service base → AreFields (service_before base stamps)
 before_ok (New id now) stamps is ok = record { id = is; name = tt; host = inr refl; port = (omega arith, omega arith); path = tt; retries = (omega arith, omega arith) }
 before_ok (Again id created_at now) stamps is ok = record { id = is; name = tt; host = inr refl; port = (omega arith, omega arith); path = tt; retries = (omega arith, omega arith) }
-before_ok (Word id text now) stamps is ok = record { id = is; name = takes_accepted word.Name is_name takes_name text ok; host = inr refl; port = (omega arith, omega arith); path = tt; retries = (omega arith, omega arith) }
+before_ok (Word id text now) stamps is ok = record { id = is; name = takes_accepted text_kind.Name is_name takes_name text ok; host = inr refl; port = (omega arith, omega arith); path = tt; retries = (omega arith, omega arith) }
 before_ok (Old (row.Service old) now) stamps is ok =
     let high = ok.retries in
     record { id = ok.id; name = ok.name; host = inl ok.host; port = ok.port; path = ok.path; retries = (omega arith, high) }
@@ -65,21 +65,21 @@ address_ok (Some url) body before ok old = record { id = old.id; name = old.name
 address_ok None body before ok old = record {
   id = old.id;
   name = old.name;
-  host = unwrapped_ok (OrEmpty IsHost) (text_at word.Host (codes "host") body) before.host (host_ok (text_at word.Host (codes "host") body) (text_ok word.Host is_host takes_host (codes "host") body)) old.host;
+  host = unwrapped_ok (OrEmpty IsHost) (text_at text_kind.Host (codes "host") body) before.host (host_ok (text_at text_kind.Host (codes "host") body) (text_ok text_kind.Host is_host takes_host (codes "host") body)) old.host;
   port = unwrapped_ok IsPort (whole_at 1 65535 (codes "port") body) before.port (whole_ok 1 65535 (codes "port") body) old.port;
-  path = or_ok IsPath (text_at word.Path (codes "path") body) before.path (text_ok word.Path is_normal_path takes_path (codes "path") body) old.path;
+  path = or_ok IsPath (text_at text_kind.Path (codes "path") body) before.path (text_ok text_kind.Path is_normal_path takes_path (codes "path") body) old.path;
   retries = old.retries;
 }
 
-over_ok : (body : Data) (before : Service) → AreFields before → service_faults body (service_over body before) ≡ [] → IsValidService (service_over body before)
+over_ok : (body : Data) (before : Service) → AreFields before → service_violations body (service_over body before) ≡ [] → IsValidService (service_over body before)
 over_ok body before old none =
     let service = address_over (url_at body) body before in
     let fields : AreFields service = address_ok (url_at body) body before (url_ok body) old in
-    let told = neither (fault_if (doubles_url body) (codes "url") Exclusive) (fault_if (length service.host == 0) (codes "host") Required) none in
+    let told = neither (violation_if (doubles_url body) (codes "url") Exclusive) (violation_if (length service.host == 0) (codes "host") Required) none in
     let retries = unwrapped_ok AreRetries (whole_at 0 32767 (codes "retries") body) service.retries (whole_ok 0 32767 (codes "retries") body) fields.retries in
     record {
       id = fields.id;
-      name = or_ok IsName (text_at word.Name (codes "name") body) service.name (text_ok word.Name is_name takes_name (codes "name") body) fields.name;
+      name = or_ok IsName (text_at text_kind.Name (codes "name") body) service.name (text_ok text_kind.Name is_name takes_name (codes "name") body) fields.name;
       host = filled IsHost service.host fields.host (not_broken (length service.host == 0) (codes "host") Required told.1);
       port = fields.port;
       path = fields.path;
@@ -87,7 +87,7 @@ over_ok body before old none =
     }
 
 pub service_ok : (body : Data) (base : BaseValue) → HasId base → IsValidBase kind.Service base
-    → service_faults body (service_over body (service_before base (stamps_of base body))) ≡ []
+    → service_violations body (service_over body (service_before base (stamps_of base body))) ≡ []
     → IsValidService (service_over body (service_before base (stamps_of base body)))
 service_ok body base is ok none =
     over_ok body (service_before base (stamps_of base body)) (before_ok base (stamps_of base body) (stamps_ok kind.Service body base is ok) ok) none

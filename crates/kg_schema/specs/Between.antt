@@ -26,10 +26,10 @@ use Rattle.kg_row_types.specs.declared.plugin.PluginRow.{PluginRow}
 use Rattle.kg_row_types.specs.declared.route.Route.{Route}
 use Rattle.kg_row_types.specs.declared.service.Service.{Service}
 use Rattle.kg_row_making.specs.Bases.{BaseValue, fixed_id, given_word, old_as, route_of, key_of, basic_of, acl_of, plugin_row_of}
-use Rattle.kg_field_tables.specs.BrokenRules.{faults_in, named_plugin}
+use Rattle.kg_field_tables.specs.BrokenRules.{violations_in, named_plugin}
 use Rattle.kg_schema.specs.Finished.{row_over}
 use Rattle.kg_field_tables.specs.Judging.{is_set}
-use Rattle.kg_field_rules.specs.Rules.{Fault}
+use Rattle.kg_field_rules.specs.Rules.{BrokenRule}
 use Rattle.kg_bodies.specs.Settings.{text_at, id_at, inside}
 use Rattle.kg_field_rules.specs.TextRules.{text_rule}
 use Rattle.kg_row_making.specs.declared.base.Links.{Links}
@@ -38,12 +38,12 @@ use Rattle.kg_row_making.specs.declared.base.ParentField.TheVariants as parent
 use Rattle.kg_field_rules.specs.declared.rule.Rule.{Rule}
 use Rattle.kg_field_rules.specs.declared.rule.Rule.TheVariants.{Required, Fixed, Exclusive}
 use Rattle.kg_field_tables.specs.declared.table.Table.TheVariants as table
-use Rattle.kg_field_rules.specs.declared.word.Word.{Word}
-use Rattle.kg_field_rules.specs.declared.word.Word.TheVariants as word
+use Rattle.kg_field_rules.specs.declared.text_kind.TextKind.{TextKind}
+use Rattle.kg_field_rules.specs.declared.text_kind.TextKind.TheVariants as text_kind
 
 -- the rule at this field, if it is broken
-abbrev pub fault_if : Bool → List ℕ → Rule → List Fault
-fault_if broken field rule = if broken then (field, rule) ∷ [] else []
+abbrev pub violation_if : Bool → List ℕ → Rule → List BrokenRule
+violation_if broken field rule = if broken then (field, rule) ∷ [] else []
 
 -- ---- what the base and the parent fix
 
@@ -55,17 +55,17 @@ abbrev pub same_number : ℕ → ℕ → Bool
 same_number a b = a == b
 
 -- the body names another id than the row has
-abbrev pub id_faults : Data → BaseValue → List Fault
-id_faults body base = fault_if (differ same_number (id_at body) (fixed_id base)) (codes "id") Fixed
+abbrev pub id_violations : Data → BaseValue → List BrokenRule
+id_violations body base = violation_if (differ same_number (id_at body) (fixed_id base)) (codes "id") Fixed
 
 -- the field that a word stands for, and how it is spelled: a plugin has none
-abbrev pub word_field : Kind → Option (List ℕ × Word)
-word_field kind.Service = Some (codes "name", word.Name)
-word_field kind.Route = Some (codes "name", word.Name)
-word_field kind.Consumer = Some (codes "username", word.Username)
-word_field kind.KeyCred = Some (codes "key", word.FreeText)
-word_field kind.BasicCred = Some (codes "username", word.FreeText)
-word_field kind.Acl = Some (codes "group", word.FreeText)
+abbrev pub word_field : Kind → Option (List ℕ × TextKind)
+word_field kind.Service = Some (codes "name", text_kind.Name)
+word_field kind.Route = Some (codes "name", text_kind.Name)
+word_field kind.Consumer = Some (codes "username", text_kind.Username)
+word_field kind.KeyCred = Some (codes "key", text_kind.FreeText)
+word_field kind.BasicCred = Some (codes "username", text_kind.FreeText)
+word_field kind.Acl = Some (codes "group", text_kind.FreeText)
 word_field kind.Plugin = None
 
 -- a text by which a row of this kind can be made
@@ -73,9 +73,9 @@ abbrev pub accepts_word : Kind → List ℕ → Bool
 accepts_word kind text = option_map_or (λ field. is_none (text_rule field.1 text)) (word_field kind) false
 
 -- the body says another word than the one by which the row is made
-abbrev pub word_faults : Kind → Data → BaseValue → List Fault
-word_faults kind body base =
-    option_map_or (λ field. fault_if (differ bytes_eq (text_at field.1 field.0 body) (given_word base)) field.0 Fixed) (word_field kind) []
+abbrev pub word_violations : Kind → Data → BaseValue → List BrokenRule
+word_violations kind body base =
+    option_map_or (λ field. violation_if (differ bytes_eq (text_at field.1 field.0 body) (given_word base)) field.0 Fixed) (word_field kind) []
 
 -- the field that names a parent
 abbrev pub parent_text : ParentField → List ℕ
@@ -84,8 +84,8 @@ parent_text parent.Route = codes "route"
 parent_text parent.Consumer = codes "consumer"
 
 -- the body names another parent than the one under which the row stands
-abbrev pub parent_faults : Option ParentField → List Fault
-parent_faults contradicted = option_map_or (λ field. (parent_text field, Fixed) ∷ []) contradicted []
+abbrev pub parent_violations : Option ParentField → List BrokenRule
+parent_violations contradicted = option_map_or (λ field. (parent_text field, Fixed) ∷ []) contradicted []
 
 -- ---- the finished row, by its kind
 
@@ -98,10 +98,10 @@ doubles_url body =
     is_set_at (codes "url") body
     && (is_set_at (codes "protocol") body || is_set_at (codes "host") body || is_set_at (codes "port") body || is_set_at (codes "path") body)
 
-abbrev pub service_faults : Data → Service → List Fault
-service_faults body service =
-    fault_if (doubles_url body) (codes "url") Exclusive
-    ++ fault_if (length service.host == 0) (codes "host") Required
+abbrev pub service_violations : Data → Service → List BrokenRule
+service_violations body service =
+    violation_if (doubles_url body) (codes "url") Exclusive
+    ++ violation_if (length service.host == 0) (codes "host") Required
 
 -- neither the caller nor the old row names the row that is needed
 abbrev pub is_missing : {R : Type 0} → Option ℕ → Option R → Bool
@@ -112,36 +112,36 @@ abbrev pub fits_nothing : Route → Bool
 fits_nothing route =
     length route.methods == 0 && length route.hosts == 0 && length route.headers == 0 && length route.paths == 0
 
-abbrev pub route_faults : BaseValue → Links → Route → List Fault
-route_faults base links route =
-    fault_if (is_missing links.service (old_as route_of base)) (codes "service") Required
-    ++ fault_if (fits_nothing route) (codes "paths") Required
+abbrev pub route_violations : BaseValue → Links → Route → List BrokenRule
+route_violations base links route =
+    violation_if (is_missing links.service (old_as route_of base)) (codes "service") Required
+    ++ violation_if (fits_nothing route) (codes "paths") Required
 
-abbrev pub consumer_faults : Consumer → List Fault
-consumer_faults consumer =
-    fault_if (is_none consumer.username && is_none consumer.custom_id) (codes "username") Required
+abbrev pub consumer_violations : Consumer → List BrokenRule
+consumer_violations consumer =
+    violation_if (is_none consumer.username && is_none consumer.custom_id) (codes "username") Required
 
 -- the consumer of a credential or of a membership is required, and never another than the old one
-abbrev pub owner_faults : Links → Option ℕ → List Fault
-owner_faults links old =
-    fault_if (is_missing links.consumer old) (codes "consumer") Required
-    ++ fault_if (differ same_number links.consumer old) (codes "consumer") Fixed
+abbrev pub owner_violations : Links → Option ℕ → List BrokenRule
+owner_violations links old =
+    violation_if (is_missing links.consumer old) (codes "consumer") Required
+    ++ violation_if (differ same_number links.consumer old) (codes "consumer") Fixed
 
-abbrev pub key_faults : BaseValue → Links → KeyCred → List Fault
-key_faults base links credential =
-    owner_faults links (option_map (λ old. old.consumer) (old_as key_of base))
-    ++ fault_if (length credential.key == 0) (codes "key") Required
+abbrev pub key_violations : BaseValue → Links → KeyCred → List BrokenRule
+key_violations base links credential =
+    owner_violations links (option_map (λ old. old.consumer) (old_as key_of base))
+    ++ violation_if (length credential.key == 0) (codes "key") Required
 
-abbrev pub basic_faults : BaseValue → Links → BasicCred → List Fault
-basic_faults base links credential =
-    owner_faults links (option_map (λ old. old.consumer) (old_as basic_of base))
-    ++ fault_if (length credential.username == 0) (codes "username") Required
-    ++ fault_if (length credential.hash == 0) (codes "password") Required
+abbrev pub basic_violations : BaseValue → Links → BasicCred → List BrokenRule
+basic_violations base links credential =
+    owner_violations links (option_map (λ old. old.consumer) (old_as basic_of base))
+    ++ violation_if (length credential.username == 0) (codes "username") Required
+    ++ violation_if (length credential.hash == 0) (codes "password") Required
 
-abbrev pub acl_faults : BaseValue → Links → AclRow → List Fault
-acl_faults base links membership =
-    owner_faults links (option_map (λ old. old.consumer) (old_as acl_of base))
-    ++ fault_if (length membership.group == 0) (codes "group") Required
+abbrev pub acl_violations : BaseValue → Links → AclRow → List BrokenRule
+acl_violations base links membership =
+    owner_violations links (option_map (λ old. old.consumer) (old_as acl_of base))
+    ++ violation_if (length membership.group == 0) (codes "group") Required
 
 -- ---- plugins
 
@@ -151,70 +151,70 @@ has_both a b = not (length a == 0) && not (length b == 0)
 abbrev pub has_neither : List (List ℕ) → List (List ℕ) → Bool
 has_neither a b = length a == 0 && length b == 0
 
-abbrev pub groups_faults : Acl → List Fault
-groups_faults config =
-    fault_if (has_both config.allow config.deny) (codes "config.allow") Exclusive
-    ++ fault_if (has_neither config.allow config.deny) (codes "config.allow") Required
+abbrev pub groups_violations : Acl → List BrokenRule
+groups_violations config =
+    violation_if (has_both config.allow config.deny) (codes "config.allow") Exclusive
+    ++ violation_if (has_neither config.allow config.deny) (codes "config.allow") Required
 
-abbrev pub ip_restriction_faults : IpRestriction → List Fault
-ip_restriction_faults config = fault_if (has_neither config.allow config.deny) (codes "config.allow") Required
+abbrev pub ip_restriction_violations : IpRestriction → List BrokenRule
+ip_restriction_violations config = violation_if (has_neither config.allow config.deny) (codes "config.allow") Required
 
-abbrev pub rate_limiting_faults : RateLimiting → List Fault
-rate_limiting_faults config =
-    fault_if (is_none config.second && is_none config.minute && is_none config.hour && is_none config.day) (codes "config.minute") Required
+abbrev pub rate_limiting_violations : RateLimiting → List BrokenRule
+rate_limiting_violations config =
+    violation_if (is_none config.second && is_none config.minute && is_none config.hour && is_none config.day) (codes "config.minute") Required
 
-abbrev pub termination_faults : Termination → List Fault
-termination_faults config =
-    fault_if (is_some config.message && is_some config.body) (codes "config.message") Exclusive
-    ++ fault_if (is_some config.content_type && is_none config.body) (codes "config.body") Required
+abbrev pub termination_violations : Termination → List BrokenRule
+termination_violations config =
+    violation_if (is_some config.message && is_some config.body) (codes "config.message") Exclusive
+    ++ violation_if (is_some config.content_type && is_none config.body) (codes "config.body") Required
 
 -- the rules between the fields of a config
-abbrev pub config_faults : Config → List Fault
-config_faults (config_of.Acl config) = groups_faults config
-config_faults (config_of.IpRestriction config) = ip_restriction_faults config
-config_faults (config_of.RateLimiting config) = rate_limiting_faults config
-config_faults (config_of.RequestTermination config) = termination_faults config
-config_faults _ = []
+abbrev pub config_violations : Config → List BrokenRule
+config_violations (config_of.Acl config) = groups_violations config
+config_violations (config_of.IpRestriction config) = ip_restriction_violations config
+config_violations (config_of.RateLimiting config) = rate_limiting_violations config
+config_violations (config_of.RequestTermination config) = termination_violations config
+config_violations _ = []
 
 -- the plugin of the old row
 abbrev pub old_plugin : BaseValue → Option PluginName
 old_plugin base = option_map (λ old. plugin_of old.config) (old_as plugin_row_of base)
 
--- the faults of the fields of a plugin's config
-abbrev pub config_field_faults : Data → PluginName → List Fault
-config_field_faults config name =
-    option_map_or (λ members. faults_in members (table.Config name) (codes "config.")) (as_object config) []
+-- the violations of the fields of a plugin's config
+abbrev pub config_field_violations : Data → PluginName → List BrokenRule
+config_field_violations config name =
+    option_map_or (λ members. violations_in members (table.Config name) (codes "config.")) (as_object config) []
 
 -- where the old row alone tells the plugin, the fields of its config are judged by that name
-abbrev pub unnamed_config_faults : Data → BaseValue → List Fault
-unnamed_config_faults body base =
+abbrev pub unnamed_config_violations : Data → BaseValue → List BrokenRule
+unnamed_config_violations body base =
     if is_none (named_plugin body)
-    then option_map_or (config_field_faults (inside (codes "config") body)) (old_plugin base) []
+    then option_map_or (config_field_violations (inside (codes "config") body)) (old_plugin base) []
     else []
 
 -- the rules between the fields of a plugin whose name is known
-abbrev pub known_plugin_faults : PluginRow → List Fault
-known_plugin_faults plugin =
-    fault_if (is_for_no_consumer plugin.config && is_some plugin.scope.consumer) (codes "consumer") Fixed
-    ++ config_faults plugin.config
+abbrev pub known_plugin_violations : PluginRow → List BrokenRule
+known_plugin_violations plugin =
+    violation_if (is_for_no_consumer plugin.config && is_some plugin.scope.consumer) (codes "consumer") Fixed
+    ++ config_violations plugin.config
 
-abbrev pub plugin_faults : Data → BaseValue → PluginRow → List Fault
-plugin_faults body base plugin =
-    unnamed_config_faults body base
+abbrev pub plugin_violations : Data → BaseValue → PluginRow → List BrokenRule
+plugin_violations body base plugin =
+    unnamed_config_violations body base
     ++ (if is_none (named_plugin body) && is_none (old_plugin base)
     then (codes "name", Required) ∷ []
-    else known_plugin_faults plugin)
+    else known_plugin_violations plugin)
 
 -- ---- all rules
 
-abbrev pub row_faults : Data → BaseValue → Links → Entity → List Fault
-row_faults body base links (row.Service service) = service_faults body service
-row_faults body base links (row.Route route) = route_faults base links route
-row_faults body base links (row.Consumer consumer) = consumer_faults consumer
-row_faults body base links (row.KeyCred credential) = key_faults base links credential
-row_faults body base links (row.BasicCred credential) = basic_faults base links credential
-row_faults body base links (row.Acl membership) = acl_faults base links membership
-row_faults body base links (row.Plugin plugin) = plugin_faults body base plugin
+abbrev pub row_violations : Data → BaseValue → Links → Entity → List BrokenRule
+row_violations body base links (row.Service service) = service_violations body service
+row_violations body base links (row.Route route) = route_violations base links route
+row_violations body base links (row.Consumer consumer) = consumer_violations consumer
+row_violations body base links (row.KeyCred credential) = key_violations base links credential
+row_violations body base links (row.BasicCred credential) = basic_violations base links credential
+row_violations body base links (row.Acl membership) = acl_violations base links membership
+row_violations body base links (row.Plugin plugin) = plugin_violations body base plugin
 
 -- the body names another plugin than the old row has
 abbrev pub is_renamed : Kind → Data → BaseValue → Bool
@@ -223,11 +223,11 @@ is_renamed _ body base = false
 
 -- the rules between fields that a body breaks over a base, with the rows that it names; `contradicted` is the
 -- field of its parent, where the body names another one. Of a body that renames a plugin only that is told.
-unfoldable pub faults_between : Kind → Data → BaseValue → Links → Option ParentField → List Fault
-faults_between kind body base links contradicted =
+unfoldable pub violations_between : Kind → Data → BaseValue → Links → Option ParentField → List BrokenRule
+violations_between kind body base links contradicted =
     if is_renamed kind body base
     then (codes "name", Fixed) ∷ []
-    else id_faults body base
-    ++ word_faults kind body base
-    ++ parent_faults contradicted
-    ++ row_faults body base links (row_over kind body base links)
+    else id_violations body base
+    ++ word_violations kind body base
+    ++ parent_violations contradicted
+    ++ row_violations body base links (row_over kind body base links)

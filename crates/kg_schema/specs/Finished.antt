@@ -27,7 +27,7 @@ use Rattle.kg_bodies.specs.Settings.{text_at, texts_at, whole_at, integer_at, fl
 use Rattle.kg_row_making.specs.declared.base.Links.{Links}
 use Rattle.kg_row_making.specs.declared.base.Stamps.{Stamps}
 use Rattle.kg_field_rules.specs.declared.url.Url.{Url}
-use Rattle.kg_field_rules.specs.declared.word.Word.TheVariants as word
+use Rattle.kg_field_rules.specs.declared.text_kind.TextKind.TheVariants as text_kind
 
 -- ---- services
 
@@ -55,16 +55,16 @@ service_before base stamps = option_map_or (renewed_service stamps) (old_as serv
 abbrev pub address_over : Option Url → Data → Service → Service
 address_over (Some url) body before = record before { host = url.host; port = url.port; path = url.path }
 address_over None body before = record before {
-  host = unwrap_or (text_at word.Host (codes "host") body) before.host;
+  host = unwrap_or (text_at text_kind.Host (codes "host") body) before.host;
   port = unwrap_or (whole_at 1 65535 (codes "port") body) before.port;
-  path = option_or (text_at word.Path (codes "path") body) before.path;
+  path = option_or (text_at text_kind.Path (codes "path") body) before.path;
 }
 
 abbrev pub service_over : Data → Service → Service
 service_over body before =
     let service = address_over (url_at body) body before in
     record service {
-      name = option_or (text_at word.Name (codes "name") body) service.name;
+      name = option_or (text_at text_kind.Name (codes "name") body) service.name;
       retries = unwrap_or (whole_at 0 32767 (codes "retries") body) service.retries;
       enabled = unwrap_or (flag_at (codes "enabled") body) service.enabled;
     }
@@ -96,12 +96,12 @@ route_before base stamps = option_map_or (renewed_route stamps) (old_as route_of
 
 abbrev pub route_over : Data → Links → Route → Route
 route_over body links before = record before {
-  name = option_or (text_at word.Name (codes "name") body) before.name;
+  name = option_or (text_at text_kind.Name (codes "name") body) before.name;
   service = unwrap_or links.service before.service;
   https = unwrap_or (https_at body) before.https;
-  methods = list_over (texts_at word.Method (codes "methods") body) before.methods;
-  hosts = list_over (texts_at word.RouteHost (codes "hosts") body) before.hosts;
-  paths = list_over (texts_at word.RoutePath (codes "paths") body) before.paths;
+  methods = list_over (texts_at text_kind.Method (codes "methods") body) before.methods;
+  hosts = list_over (texts_at text_kind.RouteHost (codes "hosts") body) before.hosts;
+  paths = list_over (texts_at text_kind.RoutePath (codes "paths") body) before.paths;
   headers = list_over (tests_at body) before.headers;
   regex_priority = unwrap_or (integer_at (neg_ℤ (pos 1000000)) (pos 1000000) (codes "regex_priority") body) before.regex_priority;
   strip_path = unwrap_or (flag_at (codes "strip_path") body) before.strip_path;
@@ -127,8 +127,8 @@ consumer_before base stamps = option_map_or (renewed_consumer stamps) (old_as co
 
 abbrev pub consumer_over : Data → Consumer → Consumer
 consumer_over body before = record before {
-  username = option_or (text_at word.Username (codes "username") body) before.username;
-  custom_id = option_or (text_at word.FreeText (codes "custom_id") body) before.custom_id;
+  username = option_or (text_at text_kind.Username (codes "username") body) before.username;
+  custom_id = option_or (text_at text_kind.FreeText (codes "custom_id") body) before.custom_id;
 }
 
 abbrev pub new_key : BaseValue → Stamps → KeyCred
@@ -145,7 +145,7 @@ key_before base stamps = unwrap_or (old_as key_of base) (new_key base stamps)
 abbrev pub key_over : Data → Links → KeyCred → KeyCred
 key_over body links before = record before {
   consumer = unwrap_or links.consumer before.consumer;
-  key = unwrap_or (text_at word.FreeText (codes "key") body) before.key;
+  key = unwrap_or (text_at text_kind.FreeText (codes "key") body) before.key;
 }
 
 abbrev pub new_basic : BaseValue → Stamps → BasicCred
@@ -160,14 +160,14 @@ new_basic base stamps = record {
 abbrev pub basic_before : BaseValue → Stamps → BasicCred
 basic_before base stamps = unwrap_or (old_as basic_of base) (new_basic base stamps)
 
--- of a password only the hash with its consumer's id is kept
+-- of a password only the hash with its consumer's id is stored
 abbrev pub basic_over : Data → Links → BasicCred → BasicCred
 basic_over body links before =
     let consumer = unwrap_or links.consumer before.consumer in
     record before {
       consumer = consumer;
-      username = unwrap_or (text_at word.FreeText (codes "username") body) before.username;
-      hash = option_map_or (stored_password consumer) (text_at word.FreeText (codes "password") body) before.hash;
+      username = unwrap_or (text_at text_kind.FreeText (codes "username") body) before.username;
+      hash = option_map_or (stored_password consumer) (text_at text_kind.FreeText (codes "password") body) before.hash;
     }
 
 abbrev pub new_acl : BaseValue → Stamps → AclRow
@@ -184,7 +184,7 @@ acl_before base stamps = unwrap_or (old_as acl_of base) (new_acl base stamps)
 abbrev pub acl_over : Data → Links → AclRow → AclRow
 acl_over body links before = record before {
   consumer = unwrap_or links.consumer before.consumer;
-  group = unwrap_or (text_at word.FreeText (codes "group") body) before.group;
+  group = unwrap_or (text_at text_kind.FreeText (codes "group") body) before.group;
 }
 
 -- ---- plugins

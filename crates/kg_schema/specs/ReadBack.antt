@@ -8,7 +8,7 @@ use Rattle.kg_row_types.specs.declared.consumer.KeyCred.{KeyCred}
 use Rattle.kg_row_types.specs.declared.entity.Entity.{Entity}
 use Rattle.kg_row_types.specs.declared.entity.Entity.TheVariants as row
 use Rattle.kg_row_types.specs.declared.service.Service.{Service}
-use Rattle.kg_field_tables.specs.BrokenRules.{field_faults}
+use Rattle.kg_field_tables.specs.BrokenRules.{field_violations}
 use Rattle.kg_row_making.specs.Bases.{Again, made_at}
 use Rattle.kg_row_making.specs.declared.base.Links.{Links}
 use Rattle.kg_schema.specs.Finished.{row_over}
@@ -33,7 +33,7 @@ changed_at seconds other = other
 
 -- as shown, the row breaks no rule of a field, and its body makes it again
 pub record IsReadBack (old : Entity) : Type 0 where
-  pub accepted : field_faults (kind_of old) (shown old) ≡ []
+  pub accepted : field_violations (kind_of old) (shown old) ≡ []
   pub again : (now : ℕ) → row_over (kind_of old) (shown old) (Again (id_of_row old) (made_at old) now) (named_by old) ≡ changed_at (now / 1000) old
 
 -- each of these rows is read back, where it is valid

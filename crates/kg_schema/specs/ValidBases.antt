@@ -6,7 +6,7 @@ use Rattle.kg_row_types.specs.Ids.{IsId}
 use Rattle.kg_row_types.specs.ValidRows.{IsValidRow}
 use Rattle.kg_row_types.specs.declared.entity.Kind.{Kind}
 use Rattle.kg_row_making.specs.Bases.{BaseValue, New, Again, Word, Old}
-use Rattle.kg_schema.specs.Between.{accepts_word, faults_between}
+use Rattle.kg_schema.specs.Between.{accepts_word, violations_between}
 use Rattle.kg_schema.specs.Finished.{row_over}
 use Rattle.kg_row_making.specs.declared.base.Links.{Links}
 use Rattle.kg_row_making.specs.declared.base.ParentField.{ParentField}
@@ -33,4 +33,4 @@ pub record AreIds (links : Links) : Type 0 where
 -- a body that breaks no rule between fields over such a base makes a valid row
 abbrev pub MakesValidRows : Type 0
 MakesValidRows = (kind : Kind) (body : Data) (base : BaseValue) (links : Links) (contradicted : Option ParentField)
-    → HasId base → AreIds links → IsValidBase kind base → faults_between kind body base links contradicted ≡ [] → IsValidRow (row_over kind body base links)
+    → HasId base → AreIds links → IsValidBase kind base → violations_between kind body base links contradicted ≡ [] → IsValidRow (row_over kind body base links)

@@ -5,7 +5,7 @@ ghost use Rattle.std.specs.Prelude.{◌≡◌, [], IfOk, IfErr, OnOk, fold, opti
 ghost use Rattle.std.specs.Str.{bytes_eq};
 ghost use Rattle.serde_json.specs.View.{view};
 ghost use Rattle.kg_row_making.specs.Bases.{base_of, given_word};
-ghost use Rattle.kg_schema.specs.Between.{accepts_word, differ, faults_between, id_faults, is_renamed, parent_text, row_faults, parent_faults, word_faults, word_field};
+ghost use Rattle.kg_schema.specs.Between.{accepts_word, differ, violations_between, id_violations, is_renamed, parent_text, row_violations, parent_violations, word_violations, word_field};
 ghost use Rattle.kg_schema.specs.Finished.{row_before, row_over, with_set};
 ghost use Rattle.kg_field_rules.specs.Rules.{tell};
 ghost use Rattle.kg_bodies.specs.Violations.{Tells};
@@ -36,10 +36,10 @@ pub use crate::row::valid::{base_has_id, finished_rows_are_valid, links_are_ids}
 use kg_bodies::fields::named_plugin;
 use kg_bodies::form::{Form, FormError};
 use kg_bodies::settings::{id_at, text_at};
-use kg_field_rules::fault::Faults;
 use kg_field_rules::rule::Rule;
+use kg_field_rules::text_kind::TextKind;
 use kg_field_rules::text_rule::text_rule;
-use kg_field_rules::word::Word;
+use kg_field_rules::violations::Violations;
 use kg_row_making::base::{Base, Links, ParentField};
 use kg_row_types::entity::{Entity, Kind};
 use kg_text::{NoMemory, Text};
@@ -58,8 +58,8 @@ pub fn finish(
     links: &Links,
 ) -> Result<Entity, FormError>
     ensures row { IfOk result (λ row. row ≡ row_over form.now.kind (view form.now.body) (base_of base.entry) links.now) }
-    ensures valid { OnOk result (faults_between form.now.kind (view form.now.body) (base_of base.entry) links.now None ≡ []) }
-    ensures violation { IfErr result (λ e. Tells e (faults_between form.now.kind (view form.now.body) (base_of base.entry) links.now None)) }
+    ensures valid { OnOk result (violations_between form.now.kind (view form.now.body) (base_of base.entry) links.now None ≡ []) }
+    ensures violation { IfErr result (λ e. Tells e (violations_between form.now.kind (view form.now.body) (base_of base.entry) links.now None)) }
     ensures valid_row { IsValidBase form.now.kind (base_of base.entry) → IfOk result IsValidRow }
 {
     match base {
@@ -93,8 +93,8 @@ pub fn finish_under(
     contradicted: Option<ParentField>,
 ) -> Result<Entity, FormError>
     ensures row { IfOk result (λ row. row ≡ row_over form.now.kind (view form.now.body) (base_of base.now) links.now) }
-    ensures valid { OnOk result (faults_between form.now.kind (view form.now.body) (base_of base.now) links.now contradicted ≡ []) }
-    ensures violation { IfErr result (λ e. Tells e (faults_between form.now.kind (view form.now.body) (base_of base.now) links.now contradicted)) }
+    ensures valid { OnOk result (violations_between form.now.kind (view form.now.body) (base_of base.now) links.now contradicted ≡ []) }
+    ensures violation { IfErr result (λ e. Tells e (violations_between form.now.kind (view form.now.body) (base_of base.now) links.now contradicted)) }
     ensures valid_row { IsValidBase form.now.kind (base_of base.now) → IfOk result IsValidRow }
 {
     let mut row = row_before(alloc, form.kind(), form.body(), base)?;
@@ -120,8 +120,8 @@ fn finish_row(
     requires before { row.old ≡ row_before form.now.kind (view form.now.body) (base_of base.now) }
     requires kind { kind_of row.old ≡ form.now.kind }
     ensures row { OnOk result (row.new ≡ row_over form.now.kind (view form.now.body) (base_of base.now) links.now) }
-    ensures valid { OnOk result (faults_between form.now.kind (view form.now.body) (base_of base.now) links.now contradicted ≡ []) }
-    ensures violation { IfErr result (λ e. Tells e (faults_between form.now.kind (view form.now.body) (base_of base.now) links.now contradicted)) }
+    ensures valid { OnOk result (violations_between form.now.kind (view form.now.body) (base_of base.now) links.now contradicted ≡ []) }
+    ensures violation { IfErr result (λ e. Tells e (violations_between form.now.kind (view form.now.body) (base_of base.now) links.now contradicted)) }
     ensures valid_row { IsValidBase form.now.kind (base_of base.now) → OnOk result (IsValidRow row.new) }
 {
     set_row(alloc, form, links, row)?;
@@ -139,18 +139,18 @@ fn judge_row(
     row: &Entity,
 ) -> Result<(), FormError>
     requires { row.now ≡ row_over form.now.kind (view form.now.body) (base_of base.now) links.now }
-    ensures valid { OnOk result (faults_between form.now.kind (view form.now.body) (base_of base.now) links.now contradicted ≡ []) }
-    ensures violation { IfErr result (λ e. Tells e (faults_between form.now.kind (view form.now.body) (base_of base.now) links.now contradicted)) }
+    ensures valid { OnOk result (violations_between form.now.kind (view form.now.body) (base_of base.now) links.now contradicted ≡ []) }
+    ensures violation { IfErr result (λ e. Tells e (violations_between form.now.kind (view form.now.body) (base_of base.now) links.now contradicted)) }
     ensures valid_row { IsValidBase form.now.kind (base_of base.now) → OnOk result (IsValidRow row.now) }
 {
     finished_rows_are_valid();
     base_has_id(base);
     links_are_ids(links);
-    let faults = faults_between(alloc, form, base, links, contradicted, row)?;
-    if faults.is_empty() {
+    let violations = violations_between(alloc, form, base, links, contradicted, row)?;
+    if violations.is_empty() {
         return Ok(());
     }
-    Err(FormError::Violation(faults.into_list(alloc)?))
+    Err(FormError::Violation(violations.into_list(alloc)?))
 }
 
 // The row as it stands before the body sets anything.
@@ -185,28 +185,28 @@ fn set_row(alloc: Global, form: &Form, links: &Links, row: &mut Entity) -> Resul
     }
 }
 
-#[tactic(auto, unfolding(crate::specs::Between::faults_between))]
-fn faults_between(
+#[tactic(auto, unfolding(crate::specs::Between::violations_between))]
+fn violations_between(
     alloc: Global,
     form: &Form,
     base: &Base<'_>,
     links: &Links,
     contradicted: Option<ParentField>,
     row: &Entity,
-) -> Result<Faults, NoMemory>
+) -> Result<Violations, NoMemory>
     requires { row.now ≡ row_over form.now.kind (view form.now.body) (base_of base.now) links.now }
-    ensures { IfOk result (λ faults. faults ≡ fold tell [] (faults_between form.now.kind (view form.now.body) (base_of base.now) links.now contradicted)) }
+    ensures { IfOk result (λ violations. violations ≡ fold tell [] (violations_between form.now.kind (view form.now.body) (base_of base.now) links.now contradicted)) }
 {
-    let mut faults = Faults::new(alloc);
+    let mut violations = Violations::new(alloc);
     if is_renamed(form.kind(), form.body(), base) {
-        tell_if(alloc, &mut faults, true, "name", Rule::Fixed)?;
+        tell_if(alloc, &mut violations, true, "name", Rule::Fixed)?;
     } else {
-        tell_id(alloc, &mut faults, form.body(), base)?;
-        tell_word(alloc, &mut faults, form.kind(), form.body(), base)?;
-        tell_parent(alloc, &mut faults, contradicted)?;
-        tell_row(alloc, &mut faults, form.body(), base, links, row)?;
+        tell_id(alloc, &mut violations, form.body(), base)?;
+        tell_word(alloc, &mut violations, form.kind(), form.body(), base)?;
+        tell_parent(alloc, &mut violations, contradicted)?;
+        tell_row(alloc, &mut violations, form.body(), base, links, row)?;
     }
-    Ok(faults)
+    Ok(violations)
 }
 
 // Does the body name another plugin than the old row has?
@@ -233,11 +233,11 @@ fn is_renamed(kind: Kind, body: &Value, base: &Base<'_>) -> bool
 // Tells an id that is another than the row's.
 fn tell_id(
     alloc: Global,
-    faults: &mut Faults,
+    violations: &mut Violations,
     body: &Value,
     base: &Base<'_>,
 ) -> Result<(), NoMemory>
-    ensures { OnOk result (faults.new ≡ fold tell faults.old (id_faults (view body.now) (base_of base.now))) }
+    ensures { OnOk result (violations.new ≡ fold tell violations.old (id_violations (view body.now) (base_of base.now))) }
 {
     let other = match id_at(body) {
         Some(id) => match base.fixed_id() {
@@ -246,7 +246,7 @@ fn tell_id(
         },
         None => false,
     };
-    tell_if(alloc, faults, other, "id", Rule::Fixed)
+    tell_if(alloc, violations, other, "id", Rule::Fixed)
 }
 
 /// Whether a row of the kind can be made by this word: the name of a service or a route, the username of
@@ -263,17 +263,17 @@ pub fn accepts_word(alloc: Global, kind: Kind, word: &Text) -> Result<bool, NoMe
 // Tells a word that is another than the one by which the row is made.
 fn tell_word(
     alloc: Global,
-    faults: &mut Faults,
+    violations: &mut Violations,
     kind: Kind,
     body: &Value,
     base: &Base<'_>,
 ) -> Result<(), NoMemory>
-    ensures { OnOk result (faults.new ≡ fold tell faults.old (word_faults kind (view body.now) (base_of base.now))) }
+    ensures { OnOk result (violations.new ≡ fold tell violations.old (word_violations kind (view body.now) (base_of base.now))) }
 {
     match word_field(kind) {
         Some((field, spelled)) => {
             let other = names_other(alloc, spelled, field, body, base)?;
-            tell_if(alloc, faults, other, field, Rule::Fixed)
+            tell_if(alloc, violations, other, field, Rule::Fixed)
         }
         None => Ok(()),
     }
@@ -281,7 +281,7 @@ fn tell_word(
 
 fn names_other(
     alloc: Global,
-    spelled: Word,
+    spelled: TextKind,
     field: &str,
     body: &Value,
     base: &Base<'_>,
@@ -298,29 +298,29 @@ fn names_other(
 }
 
 // The field that a word stands for, and how it is spelled: a plugin has none.
-fn word_field(kind: Kind) -> Option<(&'static str, Word)>
+fn word_field(kind: Kind) -> Option<(&'static str, TextKind)>
     ensures { option_map (λ field. (field.0.now, field.1)) result ≡ word_field kind }
 {
     match kind {
-        Kind::Service => Some(("name", Word::Name)),
-        Kind::Route => Some(("name", Word::Name)),
-        Kind::Consumer => Some(("username", Word::Username)),
-        Kind::KeyCred => Some(("key", Word::FreeText)),
-        Kind::BasicCred => Some(("username", Word::FreeText)),
-        Kind::Acl => Some(("group", Word::FreeText)),
+        Kind::Service => Some(("name", TextKind::Name)),
+        Kind::Route => Some(("name", TextKind::Name)),
+        Kind::Consumer => Some(("username", TextKind::Username)),
+        Kind::KeyCred => Some(("key", TextKind::FreeText)),
+        Kind::BasicCred => Some(("username", TextKind::FreeText)),
+        Kind::Acl => Some(("group", TextKind::FreeText)),
         Kind::Plugin => None,
     }
 }
 
 fn tell_parent(
     alloc: Global,
-    faults: &mut Faults,
+    violations: &mut Violations,
     contradicted: Option<ParentField>,
 ) -> Result<(), NoMemory>
-    ensures { OnOk result (faults.new ≡ fold tell faults.old (parent_faults contradicted)) }
+    ensures { OnOk result (violations.new ≡ fold tell violations.old (parent_violations contradicted)) }
 {
     match contradicted {
-        Some(field) => tell_if(alloc, faults, true, parent_text(field), Rule::Fixed),
+        Some(field) => tell_if(alloc, violations, true, parent_text(field), Rule::Fixed),
         None => Ok(()),
     }
 }
@@ -338,21 +338,21 @@ fn parent_text(field: ParentField) -> &'static str
 // Tells the rules between the fields of the finished row.
 fn tell_row(
     alloc: Global,
-    faults: &mut Faults,
+    violations: &mut Violations,
     body: &Value,
     base: &Base<'_>,
     links: &Links,
     row: &Entity,
 ) -> Result<(), NoMemory>
-    ensures { OnOk result (faults.new ≡ fold tell faults.old (row_faults (view body.now) (base_of base.now) links.now row.now)) }
+    ensures { OnOk result (violations.new ≡ fold tell violations.old (row_violations (view body.now) (base_of base.now) links.now row.now)) }
 {
     match row {
-        Entity::Service(row) => tell_service(alloc, faults, body, row),
-        Entity::Route(row) => tell_route(alloc, faults, base, links, row),
-        Entity::Consumer(row) => tell_consumer(alloc, faults, row),
-        Entity::KeyCred(row) => tell_key(alloc, faults, base, links, row),
-        Entity::BasicCred(row) => tell_basic(alloc, faults, base, links, row),
-        Entity::Acl(row) => tell_acl(alloc, faults, base, links, row),
-        Entity::Plugin(row) => tell_plugin(alloc, faults, body, base, row),
+        Entity::Service(row) => tell_service(alloc, violations, body, row),
+        Entity::Route(row) => tell_route(alloc, violations, base, links, row),
+        Entity::Consumer(row) => tell_consumer(alloc, violations, row),
+        Entity::KeyCred(row) => tell_key(alloc, violations, base, links, row),
+        Entity::BasicCred(row) => tell_basic(alloc, violations, base, links, row),
+        Entity::Acl(row) => tell_acl(alloc, violations, base, links, row),
+        Entity::Plugin(row) => tell_plugin(alloc, violations, body, base, row),
     }
 }

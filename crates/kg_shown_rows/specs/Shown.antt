@@ -1,6 +1,6 @@
 -- Rows as objects of JSON (Kong Admin API, the entities' pages). What isn't set is null. A member that
 -- has one value only is left out, but for a service's protocol and a route's path handling, and what is
--- kept of a password stands in its place: this choice is the project's own.
+-- stored of a password stands in its place: this choice is the project's own.
 use Rattle.std.specs.Prelude.{ℕ, ◌==◌, Bool, List, [], ◌∷◌, fold, length, codes, if◌then◌else◌}
 use Rattle.kg_row_types.specs.PluginNames.{plugin_of, plugin_text}
 use Rattle.kg_row_types.specs.declared.consumer.AclRow.{AclRow}
@@ -78,7 +78,7 @@ key_members credential =
     ∷ (codes "key", string credential.key)
     ∷ []
 
--- the password is shown as what is kept of it
+-- the password is shown as what is stored of it
 abbrev pub basic_members : BasicCred → Named
 basic_members credential =
     (codes "consumer", shown_reference credential.consumer)

@@ -23,7 +23,7 @@ use serde_json::{Map, Value, put};
 use std::alloc::{AllocError, Global};
 
 /// The row as an object of JSON, as the Admin API shows it. What isn't set is null; members that have
-/// one value only are left out, but for `protocol` and `path_handling`; `password` is what is kept of
+/// one value only are left out, but for `protocol` and `path_handling`; `password` is what is stored of
 /// it. The members are in byte order of their names.
 pub fn show_entity(alloc: Global, row: &Entity) -> Result<Value, NoMemory>
     ensures { IfOk result (λ v. view v ≡ shown row.now) }

@@ -10,18 +10,18 @@ use Rattle.std.proofs.lemmas.Grind.{flat_map-append}
 use Rattle.httparse.specs.Grammar.{LineEnd, crlf, lf, is_token_byte, is_uri_byte, AllPass, IsToken, print_end, print_blank, EndsInTarget}
 use Rattle.httparse.proofs.PieceLemmas.{space_ends_token}
 use Rattle.kg_text.specs.Names.{is_tchar}
-use Rattle.kg_wire.specs.OpenTargets.{next_place}
-use Rattle.kg_wire.specs.declared.open_target.Place.{Place}
-use Rattle.kg_wire.specs.declared.open_target.Place.TheVariants.{Blank, Return, Method, Target, Elsewhere}
+use Rattle.kg_wire.specs.OpenTargets.{next_state}
+use Rattle.kg_wire.specs.declared.open_target.State.{State}
+use Rattle.kg_wire.specs.declared.open_target.State.TheVariants.{Blank, Return, Method, Target, Elsewhere}
 
 -- ---- what a place says of the bytes before it
 
-abbrev IsPlace : Place → List ℕ → Type 0
-IsPlace Blank text = (blank : List LineEnd) × (text ≡ print_blank blank)
-IsPlace Return text = (blank : List LineEnd) × (text ≡ print_blank blank ++ 13 ∷ [])
-IsPlace Method text = (blank : List LineEnd) × (method : List ℕ) × IsToken method × (text ≡ print_blank blank ++ method)
-IsPlace Target text = EndsInTarget text
-IsPlace Elsewhere text = ⊤
+abbrev IsState : State → List ℕ → Type 0
+IsState Blank text = (blank : List LineEnd) × (text ≡ print_blank blank)
+IsState Return text = (blank : List LineEnd) × (text ≡ print_blank blank ++ 13 ∷ [])
+IsState Method text = (blank : List LineEnd) × (method : List ℕ) × IsToken method × (text ≡ print_blank blank ++ method)
+IsState Target text = EndsInTarget text
+IsState Elsewhere text = ⊤
 
 token_byte : (b : ℕ) → is_tchar b ≡ true → is_token_byte b ≡ true
 unfolding is_token_byte
@@ -34,7 +34,7 @@ blank_more blank e =
 
 from_blank : (text : List ℕ) (b : ℕ) (blank : List LineEnd) → text ≡ print_blank blank
     → (x y z : Bool) → (b == 10) ≡ x → (b == 13) ≡ y → is_tchar b ≡ z
-    → IsPlace (if x then Blank else (if y then Return else (if z then Method else Elsewhere))) (text ++ b ∷ [])
+    → IsState (if x then Blank else (if y then Return else (if z then Method else Elsewhere))) (text ++ b ∷ [])
 from_blank text b blank is true y z feed other token =
     let same : b ≡ 10 = eqb-true b 10 feed in
     (blank ++ lf ∷ [], ap (λ t. t ++ b ∷ []) is ∙ ap (λ c. print_blank blank ++ c ∷ []) same ∙ sym (blank_more blank lf))
@@ -50,7 +50,7 @@ from_blank text b blank is false false true feed other token = (
 from_blank text b blank is false false false feed other token = tt
 
 from_return : (text : List ℕ) (b : ℕ) (blank : List LineEnd) → text ≡ print_blank blank ++ 13 ∷ []
-    → (x : Bool) → (b == 10) ≡ x → IsPlace (if x then Blank else Elsewhere) (text ++ b ∷ [])
+    → (x : Bool) → (b == 10) ≡ x → IsState (if x then Blank else Elsewhere) (text ++ b ∷ [])
 from_return text b blank is true feed =
     let same : b ≡ 10 = eqb-true b 10 feed in (
       blank ++ crlf ∷ [],
@@ -61,7 +61,7 @@ from_return text b blank is false feed = tt
 
 from_method : (text : List ℕ) (b : ℕ) (blank : List LineEnd) (method : List ℕ) → IsToken method → text ≡ print_blank blank ++ method
     → (x z : Bool) → (b == 32) ≡ x → is_tchar b ≡ z
-    → IsPlace (if x then Target else (if z then Method else Elsewhere)) (text ++ b ∷ [])
+    → IsState (if x then Target else (if z then Method else Elsewhere)) (text ++ b ∷ [])
 from_method text b blank method token is true z blank_byte more =
     let same : b ≡ 32 = eqb-true b 32 blank_byte in (
       blank,
@@ -81,7 +81,7 @@ from_method text b blank method token is false false blank_byte more = tt
 
 from_target : (text : List ℕ) (b : ℕ) (blank : List LineEnd) (method target : List ℕ) → IsToken method → AllPass is_uri_byte target
     → text ≡ print_blank blank ++ method ++ 32 ∷ target
-    → (z : Bool) → is_uri_byte b ≡ z → IsPlace (if z then Target else Elsewhere) (text ++ b ∷ [])
+    → (z : Bool) → is_uri_byte b ≡ z → IsState (if z then Target else Elsewhere) (text ++ b ∷ [])
 from_target text b blank method target token uri is true more = (
   blank,
   method,
@@ -92,27 +92,27 @@ from_target text b blank method target token uri is true more = (
 )
 from_target text b blank method target token uri is false more = tt
 
-step : (p : Place) (text : List ℕ) (b : ℕ) → IsPlace p text → IsPlace (next_place p b) (text ++ b ∷ [])
+step : (p : State) (text : List ℕ) (b : ℕ) → IsState p text → IsState (next_state p b) (text ++ b ∷ [])
 step Blank text b (blank, is) = from_blank text b blank is (b == 10) (b == 13) (is_tchar b) refl refl refl
 step Return text b (blank, is) = from_return text b blank is (b == 10) refl
 step Method text b (blank, method, token, is) = from_method text b blank method token is (b == 32) (is_tchar b) refl refl
 step Target text b (blank, method, target, token, uri, is) = from_target text b blank method target token uri is (is_uri_byte b) refl
 step Elsewhere text b is = tt
 
-steps : (p : Place) (front rest : List ℕ) → IsPlace p front → IsPlace (fold next_place p rest) (front ++ rest)
-steps p front [] is = subst (IsPlace p) (sym (append-nil front)) is
+steps : (p : State) (front rest : List ℕ) → IsState p front → IsState (fold next_state p rest) (front ++ rest)
+steps p front [] is = subst (IsState p) (sym (append-nil front)) is
 steps p front (b ∷ rest) is =
-    subst (IsPlace (fold next_place (next_place p b) rest)) (append_assoc front (b ∷ []) rest)
-    (steps (next_place p b) (front ++ b ∷ []) rest (step p front b is))
+    subst (IsState (fold next_state (next_state p b) rest)) (append_assoc front (b ∷ []) rest)
+    (steps (next_state p b) (front ++ b ∷ []) rest (step p front b is))
 
 -- where the place is the target, the bytes end in one
-pub target_ends : (bytes : List ℕ) (p : Place) → p ≡ fold next_place Blank bytes → p ≡ Target → EndsInTarget bytes
+pub target_ends : (bytes : List ℕ) (p : State) → p ≡ fold next_state Blank bytes → p ≡ Target → EndsInTarget bytes
 target_ends bytes p is target =
-    subst (λ q. IsPlace q bytes) (sym is ∙ target) (steps Blank [] bytes ([], refl))
+    subst (λ q. IsState q bytes) (sym is ∙ target) (steps Blank [] bytes ([], refl))
 
 -- ---- the place where the bytes end in a target
 
-after_blank : (blank : List LineEnd) → fold next_place Blank (print_blank blank) ≡ Blank
+after_blank : (blank : List LineEnd) → fold next_state Blank (print_blank blank) ≡ Blank
 after_blank [] = refl
 after_blank (crlf ∷ blank) = after_blank blank
 after_blank (lf ∷ blank) = after_blank blank
@@ -133,39 +133,39 @@ tchar : (b : ℕ) → is_token_byte b ≡ true → is_tchar b ≡ true
 unfolding is_token_byte
 tchar b is = is
 
-in_method : (b : ℕ) → is_token_byte b ≡ true → next_place Method b ≡ Method
+in_method : (b : ℕ) → is_token_byte b ≡ true → next_state Method b ≡ Method
 in_method b token = rw (no_space b token, tchar b token) refl
 
-begins_method : (b : ℕ) → is_token_byte b ≡ true → next_place Blank b ≡ Method
+begins_method : (b : ℕ) → is_token_byte b ≡ true → next_state Blank b ≡ Method
 begins_method b token = rw (no_feed b token, no_return b token, tchar b token) refl
 
-in_target : (b : ℕ) → is_uri_byte b ≡ true → next_place Target b ≡ Target
+in_target : (b : ℕ) → is_uri_byte b ≡ true → next_state Target b ≡ Target
 in_target b uri = rw uri refl
 
-all_method : (method : List ℕ) → AllPass is_token_byte method → fold next_place Method method ≡ Method
+all_method : (method : List ℕ) → AllPass is_token_byte method → fold next_state Method method ≡ Method
 all_method [] all = refl
 all_method (b ∷ method) all =
-    ap (λ p. fold next_place p method) (in_method b (All-head (λ c. IsTrue (is_token_byte c)) b method all))
+    ap (λ p. fold next_state p method) (in_method b (All-head (λ c. IsTrue (is_token_byte c)) b method all))
     ∙ all_method method (All-tail (λ c. IsTrue (is_token_byte c)) b method all)
 
-after_method : (method : List ℕ) → IsToken method → fold next_place Blank method ≡ Method
+after_method : (method : List ℕ) → IsToken method → fold next_state Blank method ≡ Method
 after_method [] token = absurd (let some = token.0 in omega arith)
 after_method (b ∷ method) token =
-    ap (λ p. fold next_place p method) (begins_method b (All-head (λ c. IsTrue (is_token_byte c)) b method token.1))
+    ap (λ p. fold next_state p method) (begins_method b (All-head (λ c. IsTrue (is_token_byte c)) b method token.1))
     ∙ all_method method (All-tail (λ c. IsTrue (is_token_byte c)) b method token.1)
 
-after_target : (target : List ℕ) → AllPass is_uri_byte target → fold next_place Target target ≡ Target
+after_target : (target : List ℕ) → AllPass is_uri_byte target → fold next_state Target target ≡ Target
 after_target [] all = refl
 after_target (b ∷ target) all =
-    ap (λ p. fold next_place p target) (in_target b (All-head (λ c. IsTrue (is_uri_byte c)) b target all))
+    ap (λ p. fold next_state p target) (in_target b (All-head (λ c. IsTrue (is_uri_byte c)) b target all))
     ∙ after_target target (All-tail (λ c. IsTrue (is_uri_byte c)) b target all)
 
 -- where the bytes end in a target, the place is one
-pub ends_target : (bytes : List ℕ) → EndsInTarget bytes → fold next_place Blank bytes ≡ Target
+pub ends_target : (bytes : List ℕ) → EndsInTarget bytes → fold next_state Blank bytes ≡ Target
 ends_target bytes (blank, method, target, token, uri, is) =
-    ap (fold next_place Blank) is
-    ∙ fold-append next_place Blank (print_blank blank ++ method) (32 ∷ target)
-    ∙ ap (λ p. fold next_place p (32 ∷ target))
-    (fold-append next_place Blank (print_blank blank) method
-    ∙ ap (λ p. fold next_place p method) (after_blank blank) ∙ after_method method token)
+    ap (fold next_state Blank) is
+    ∙ fold-append next_state Blank (print_blank blank ++ method) (32 ∷ target)
+    ∙ ap (λ p. fold next_state p (32 ∷ target))
+    (fold-append next_state Blank (print_blank blank) method
+    ∙ ap (λ p. fold next_state p method) (after_blank blank) ∙ after_method method token)
     ∙ after_target target uri

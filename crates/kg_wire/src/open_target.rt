@@ -4,14 +4,14 @@ ghost use Rattle.std.specs.Prelude.{◌≡◌, IsTrue, false, if◌then◌else�
 ghost use Rattle.std.specs.List.{fold};
 ghost use Rattle.httparse.specs.Grammar.{EndsInTarget, is_uri_byte};
 ghost use Rattle.kg_text.specs.Names.{is_tchar};
-ghost use Rattle.kg_wire.specs.OpenTargets.{next_place};
-ghost use Rattle.kg_wire.specs.declared.open_target.Place.TheVariants.{Blank, Method, Elsewhere};
+ghost use Rattle.kg_wire.specs.OpenTargets.{next_state};
+ghost use Rattle.kg_wire.specs.declared.open_target.State.TheVariants.{Blank, Method, Elsewhere};
 
 use kg_text::is_tchar;
 
 /// Where in a request line some bytes end.
 #[derive(Clone, Copy)]
-pub enum Place {
+pub enum State {
     /// In the empty lines before it.
     Blank,
     /// There, behind a carriage return.
@@ -27,68 +27,68 @@ pub fn ends_in_target(bytes: &[u8]) -> bool
     ensures ends { IsTrue result → EndsInTarget bytes.now }
     ensures other { result ≡ false → EndsInTarget bytes.now → ⊥ }
 {
-    matches!(place_after(bytes), Place::Target)
+    matches!(state_after(bytes), State::Target)
 }
 
-fn place_after(bytes: &[u8]) -> Place
-    ensures { result ≡ fold next_place Blank bytes.now }
+fn state_after(bytes: &[u8]) -> State
+    ensures { result ≡ fold next_state Blank bytes.now }
 {
-    let mut place = Place::Blank;
+    let mut state = State::Blank;
     for b in bytes {
-        place = next_place(place, *b);
+        state = next_state(state, *b);
     }
-    place
+    state
 }
 
-fn next_place(place: Place, b: u8) -> Place
-    ensures { result ≡ next_place place b }
+fn next_state(state: State, b: u8) -> State
+    ensures { result ≡ next_state state b }
 {
-    match place {
-        Place::Blank => first_place(b),
-        Place::Return => {
+    match state {
+        State::Blank => first_state(b),
+        State::Return => {
             if b == b'\n' {
-                Place::Blank
+                State::Blank
             } else {
-                Place::Elsewhere
+                State::Elsewhere
             }
         }
-        Place::Method => {
+        State::Method => {
             if b == b' ' {
-                Place::Target
+                State::Target
             } else {
-                method_place(b)
+                method_state(b)
             }
         }
-        Place::Target => {
+        State::Target => {
             if is_uri_byte(b) {
-                Place::Target
+                State::Target
             } else {
-                Place::Elsewhere
+                State::Elsewhere
             }
         }
-        Place::Elsewhere => Place::Elsewhere,
+        State::Elsewhere => State::Elsewhere,
     }
 }
 
-fn first_place(b: u8) -> Place
-    ensures { result ≡ next_place Blank b }
+fn first_state(b: u8) -> State
+    ensures { result ≡ next_state Blank b }
 {
     if b == b'\n' {
-        Place::Blank
+        State::Blank
     } else if b == b'\r' {
-        Place::Return
+        State::Return
     } else {
-        method_place(b)
+        method_state(b)
     }
 }
 
-fn method_place(b: u8) -> Place
+fn method_state(b: u8) -> State
     ensures { result ≡ (if is_tchar b then Method else Elsewhere) }
 {
     if is_tchar(b) {
-        Place::Method
+        State::Method
     } else {
-        Place::Elsewhere
+        State::Elsewhere
     }
 }
 

@@ -9,8 +9,8 @@ ghost use Rattle.kg_field_tables.specs.Judging.{header_breaks, header_rule, head
 use crate::judge::{is_set, list_rule};
 use crate::texts::{are_distinct, lower_case, texts_of};
 use kg_field_rules::rule::{Rule, sooner};
+use kg_field_rules::text_kind::TextKind;
 use kg_field_rules::text_rule::is_token;
-use kg_field_rules::word::Word;
 use kg_text::{List, NoMemory, Text};
 use serde_json::{Map, Value};
 use std::alloc::Global;
@@ -59,7 +59,7 @@ fn values_rule(alloc: Global, value: &Value) -> Result<Option<Rule>, NoMemory>
     ensures { IfOk result (λ rule. rule ≡ first_by_rank (values_breaks (view value.now))) }
 {
     match texts_of(alloc, value)? {
-        Some(texts) => list_rule(alloc, Word::FreeText, &texts),
+        Some(texts) => list_rule(alloc, TextKind::FreeText, &texts),
         None => Ok(Some(Rule::WrongType)),
     }
 }

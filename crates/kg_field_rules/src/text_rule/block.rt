@@ -5,7 +5,7 @@ ghost use Rattle.std.specs.List.{before_first, list_all, list_any, slice_split};
 ghost use Rattle.std.specs.Char.{is_ascii_digit};
 ghost use Rattle.std.specs.Str.Parse.{digits_value};
 ghost use Rattle.kg_text.specs.Paths.{slash};
-ghost use Rattle.kg_row_types.specs.ConfigWords.{after_first, has_ipv4_block_form, is_decimal_within, is_ipv4, is_ipv4_block};
+ghost use Rattle.kg_row_types.specs.ConfigTexts.{after_first, has_ipv4_block_form, is_decimal_within, is_ipv4, is_ipv4_block};
 
 use crate::parts::{are_digits, number_of, split_before};
 use kg_text::NoMemory;

@@ -2,7 +2,7 @@
 
 ghost use Rattle.std.specs.Prelude.{◌≡◌, ◌==◌, slice_index};
 ghost use Rattle.std.specs.Str.{str_eq_ignore_ascii_case};
-ghost use Rattle.kg_row_types.specs.ConfigWords.{after_first, colon, edit_name, edit_value, has_edit_form, has_header_edit_form, has_header_rename_form, has_template, is_barred};
+ghost use Rattle.kg_row_types.specs.ConfigTexts.{after_first, colon, edit_name, edit_value, has_edit_form, has_header_edit_form, has_header_rename_form, has_template, is_barred};
 
 use crate::parts::split_before;
 use crate::text_rule::forms::{has_no_controls, is_token};

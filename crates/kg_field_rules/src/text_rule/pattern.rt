@@ -2,7 +2,7 @@
 
 ghost use Rattle.std.specs.Prelude.{◌≡◌, ◌&&◌, IfOk, codes, drop, length};
 ghost use Rattle.kg_row_types.specs.Patterns.{is_pattern};
-ghost use Rattle.kg_row_types.specs.Words.{has_route_path_form};
+ghost use Rattle.kg_row_types.specs.TextForms.{has_route_path_form};
 
 use crate::text_rule::forms::is_normal_path;
 use kg_text::NoMemory;

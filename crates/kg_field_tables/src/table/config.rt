@@ -2,13 +2,13 @@
 
 ghost use Rattle.std.specs.Prelude.{◌≡◌, ◌≤◌, codes};
 ghost use Rattle.kg_row_types.specs.declared.plugin.PluginName.TheVariants as plugin;
-ghost use Rattle.kg_field_tables.specs.FieldTables.{field_of, header_word};
+ghost use Rattle.kg_field_tables.specs.FieldTables.{field_of, header_text_kind};
 ghost use Rattle.kg_field_tables.specs.Depths.{depth_of};
 
 use crate::constant::{Constant, Phrase};
 use crate::shape::Shape;
 use crate::table::{EditList, Field, Table};
-use kg_field_rules::word::{Choice, Word};
+use kg_field_rules::text_kind::{Choice, TextKind};
 use kg_row_types::plugin::PluginName;
 
 // The most that counts, sizes and times can be.
@@ -38,8 +38,10 @@ fn cors_field(name: &str) -> Field
     ensures depth { depth_of result ≡ 0 }
 {
     match name {
-        "origins" | "headers" | "exposed_headers" => Field::Judged(Shape::Texts(Word::FreeText)),
-        "methods" => Field::Judged(Shape::Texts(Word::Method)),
+        "origins" | "headers" | "exposed_headers" => Field::Judged(Shape::Texts(
+            TextKind::FreeText,
+        )),
+        "methods" => Field::Judged(Shape::Texts(TextKind::Method)),
         "credentials" | "preflight_continue" => Field::Judged(Shape::Flag),
         "max_age" => Field::Judged(Shape::Whole { low: 0, high: MOST }),
         "private_network" => Field::Fixed(Constant::Bit(false)),
@@ -52,9 +54,9 @@ fn key_auth_field(name: &str) -> Field
     ensures depth { depth_of result ≡ 0 }
 {
     match name {
-        "key_names" => Field::Judged(Shape::Texts(Word::Token)),
+        "key_names" => Field::Judged(Shape::Texts(TextKind::Token)),
         "key_in_header" | "key_in_query" | "hide_credentials" => Field::Judged(Shape::Flag),
-        "anonymous" => Field::Judged(Shape::Text(Word::Anonymous)),
+        "anonymous" => Field::Judged(Shape::Text(TextKind::Anonymous)),
         "key_in_body" => Field::Fixed(Constant::Bit(false)),
         "run_on_preflight" => Field::Fixed(Constant::Bit(true)),
         "realm" => Field::Fixed(Constant::Nothing),
@@ -68,7 +70,7 @@ fn basic_auth_field(name: &str) -> Field
 {
     match name {
         "hide_credentials" => Field::Judged(Shape::Flag),
-        "anonymous" => Field::Judged(Shape::Text(Word::Anonymous)),
+        "anonymous" => Field::Judged(Shape::Text(TextKind::Anonymous)),
         "realm" => Field::Fixed(Constant::Phrase(Phrase::Service)),
         _ => Field::Unknown,
     }
@@ -79,7 +81,7 @@ fn ip_restriction_field(name: &str) -> Field
     ensures depth { depth_of result ≡ 0 }
 {
     match name {
-        "allow" | "deny" => Field::Judged(Shape::Texts(Word::AddressBlock)),
+        "allow" | "deny" => Field::Judged(Shape::Texts(TextKind::AddressBlock)),
         "status" | "message" => Field::Fixed(Constant::Nothing),
         _ => Field::Unknown,
     }
@@ -102,7 +104,7 @@ fn acl_config_field(name: &str) -> Field
     ensures depth { depth_of result ≡ 0 }
 {
     match name {
-        "allow" | "deny" => Field::Judged(Shape::Texts(Word::FreeText)),
+        "allow" | "deny" => Field::Judged(Shape::Texts(TextKind::FreeText)),
         "hide_groups_header" => Field::Judged(Shape::Flag),
         "always_use_authenticated_groups" | "include_consumer_groups" => {
             Field::Fixed(Constant::Bit(false))
@@ -168,23 +170,23 @@ fn termination_field(name: &str) -> Field
             low: 200,
             high: 599,
         }),
-        "message" | "content_type" => Field::Judged(Shape::Text(Word::FreeText)),
-        "body" => Field::Judged(Shape::Text(Word::LongText)),
+        "message" | "content_type" => Field::Judged(Shape::Text(TextKind::FreeText)),
+        "body" => Field::Judged(Shape::Text(TextKind::LongText)),
         "trigger" => Field::Fixed(Constant::Nothing),
         "echo" => Field::Fixed(Constant::Bit(false)),
         _ => Field::Unknown,
     }
 }
 
-fn header_word(edits: EditList) -> Word
-    ensures { result ≡ header_word edits }
+fn header_text_kind(edits: EditList) -> TextKind
+    ensures { result ≡ header_text_kind edits }
 {
     match edits {
-        EditList::Remove => Word::HeaderEdit,
-        EditList::Rename => Word::HeaderRename,
-        EditList::Replace => Word::HeaderEdit,
-        EditList::Add => Word::HeaderEdit,
-        EditList::Append => Word::HeaderEdit,
+        EditList::Remove => TextKind::HeaderEdit,
+        EditList::Rename => TextKind::HeaderRename,
+        EditList::Replace => TextKind::HeaderEdit,
+        EditList::Add => TextKind::HeaderEdit,
+        EditList::Append => TextKind::HeaderEdit,
     }
 }
 
@@ -194,8 +196,8 @@ pub fn request_edits_field(edits: EditList, name: &str) -> Field
     ensures depth { depth_of result ≡ 0 }
 {
     match name {
-        "headers" => Field::Judged(Shape::Texts(header_word(edits))),
-        "querystring" => Field::Judged(Shape::Texts(Word::Edit)),
+        "headers" => Field::Judged(Shape::Texts(header_text_kind(edits))),
+        "querystring" => Field::Judged(Shape::Texts(TextKind::Edit)),
         "body" => Field::Fixed(Constant::Nothing),
         "uri" => uri_field(edits),
         _ => Field::Unknown,
@@ -222,7 +224,7 @@ pub fn response_edits_field(edits: EditList, name: &str) -> Field
     ensures depth { depth_of result ≡ 0 }
 {
     match name {
-        "headers" => Field::Judged(Shape::Texts(header_word(edits))),
+        "headers" => Field::Judged(Shape::Texts(header_text_kind(edits))),
         "json" => Field::Fixed(Constant::Nothing),
         _ => Field::Unknown,
     }

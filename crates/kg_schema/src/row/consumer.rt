@@ -4,15 +4,15 @@ ghost use Rattle.std.specs.Prelude.{◌≡◌, IfOk, OnOk, fold, option_map};
 ghost use Rattle.serde_json.specs.View.{view};
 ghost use Rattle.kg_row_types.specs.StoredPassword.{stored_password};
 ghost use Rattle.kg_row_making.specs.Bases.{acl_of, base_of, basic_of, key_of, old_as};
-ghost use Rattle.kg_schema.specs.Between.{acl_faults, basic_faults, consumer_faults, differ, key_faults, owner_faults, same_number};
+ghost use Rattle.kg_schema.specs.Between.{acl_violations, basic_violations, consumer_violations, differ, key_violations, owner_violations, same_number};
 ghost use Rattle.kg_schema.specs.Finished.{acl_before, acl_over, basic_before, basic_over, consumer_before, consumer_over, key_before, key_over};
 ghost use Rattle.kg_field_rules.specs.Rules.{tell};
 
 use crate::row::tell::tell_if;
 use kg_bodies::settings::text_at;
-use kg_field_rules::fault::Faults;
 use kg_field_rules::rule::Rule;
-use kg_field_rules::word::Word;
+use kg_field_rules::text_kind::TextKind;
+use kg_field_rules::violations::Violations;
 use kg_row_making::base::{Base, Links, Stamps};
 use kg_row_making::password::stored_password;
 use kg_row_making::set::{set, set_option};
@@ -48,11 +48,11 @@ pub fn set_consumer(alloc: Global, body: &Value, row: &mut Consumer) -> Result<(
 {
     set_option(
         &mut row.username,
-        text_at(alloc, Word::Username, "username", body)?,
+        text_at(alloc, TextKind::Username, "username", body)?,
     );
     set_option(
         &mut row.custom_id,
-        text_at(alloc, Word::FreeText, "custom_id", body)?,
+        text_at(alloc, TextKind::FreeText, "custom_id", body)?,
     );
     Ok(())
 }
@@ -60,29 +60,29 @@ pub fn set_consumer(alloc: Global, body: &Value, row: &mut Consumer) -> Result<(
 /// Tells the rules between the fields of a consumer.
 pub fn tell_consumer(
     alloc: Global,
-    faults: &mut Faults,
+    violations: &mut Violations,
     consumer: &Consumer,
 ) -> Result<(), NoMemory>
-    ensures { OnOk result (faults.new ≡ fold tell faults.old (consumer_faults consumer.now)) }
+    ensures { OnOk result (violations.new ≡ fold tell violations.old (consumer_violations consumer.now)) }
 {
     let unknown = consumer.username.is_none() && consumer.custom_id.is_none();
-    tell_if(alloc, faults, unknown, "username", Rule::Required)
+    tell_if(alloc, violations, unknown, "username", Rule::Required)
 }
 
 // Tells that no consumer is named, or another than the old row has.
 fn tell_owner(
     alloc: Global,
-    faults: &mut Faults,
+    violations: &mut Violations,
     links: &Links,
     old: Option<Id>,
 ) -> Result<(), NoMemory>
-    ensures { OnOk result (faults.new ≡ fold tell faults.old (owner_faults links.now old)) }
+    ensures { OnOk result (violations.new ≡ fold tell violations.old (owner_violations links.now old)) }
 {
     let missing = links.consumer.is_none() && old.is_none();
-    tell_if(alloc, faults, missing, "consumer", Rule::Required)?;
+    tell_if(alloc, violations, missing, "consumer", Rule::Required)?;
     tell_if(
         alloc,
-        faults,
+        violations,
         is_other(links.consumer, old),
         "consumer",
         Rule::Fixed,
@@ -150,24 +150,27 @@ pub fn set_key(
     ensures { OnOk result (row.new ≡ key_over (view body.now) links.now row.old) }
 {
     set(&mut row.consumer, links.consumer);
-    set(&mut row.key, text_at(alloc, Word::FreeText, "key", body)?);
+    set(
+        &mut row.key,
+        text_at(alloc, TextKind::FreeText, "key", body)?,
+    );
     Ok(())
 }
 
 /// Tells the rules between the fields of a credential with a key.
 pub fn tell_key(
     alloc: Global,
-    faults: &mut Faults,
+    violations: &mut Violations,
     base: &Base<'_>,
     links: &Links,
     credential: &KeyCred,
 ) -> Result<(), NoMemory>
-    ensures { OnOk result (faults.new ≡ fold tell faults.old (key_faults (base_of base.now) links.now credential.now)) }
+    ensures { OnOk result (violations.new ≡ fold tell violations.old (key_violations (base_of base.now) links.now credential.now)) }
 {
-    tell_owner(alloc, faults, links, key_owner(base))?;
+    tell_owner(alloc, violations, links, key_owner(base))?;
     tell_if(
         alloc,
-        faults,
+        violations,
         credential.key.as_bytes().is_empty(),
         "key",
         Rule::Required,
@@ -191,7 +194,7 @@ pub fn basic_before(alloc: Global, base: &Base<'_>, stamps: Stamps) -> Result<Ba
 }
 
 /// Sets in a credential what the body sets, and the consumer that it names. Of a password only the hash
-/// is kept.
+/// is stored.
 pub fn set_basic(
     alloc: Global,
     body: &Value,
@@ -203,9 +206,9 @@ pub fn set_basic(
     set(&mut row.consumer, links.consumer);
     set(
         &mut row.username,
-        text_at(alloc, Word::FreeText, "username", body)?,
+        text_at(alloc, TextKind::FreeText, "username", body)?,
     );
-    match text_at(alloc, Word::FreeText, "password", body)? {
+    match text_at(alloc, TextKind::FreeText, "password", body)? {
         Some(password) => row.hash = stored_password(alloc, row.consumer, &password)?,
         None => {}
     }
@@ -215,24 +218,24 @@ pub fn set_basic(
 /// Tells the rules between the fields of a credential with a password.
 pub fn tell_basic(
     alloc: Global,
-    faults: &mut Faults,
+    violations: &mut Violations,
     base: &Base<'_>,
     links: &Links,
     credential: &BasicCred,
 ) -> Result<(), NoMemory>
-    ensures { OnOk result (faults.new ≡ fold tell faults.old (basic_faults (base_of base.now) links.now credential.now)) }
+    ensures { OnOk result (violations.new ≡ fold tell violations.old (basic_violations (base_of base.now) links.now credential.now)) }
 {
-    tell_owner(alloc, faults, links, basic_owner(base))?;
+    tell_owner(alloc, violations, links, basic_owner(base))?;
     tell_if(
         alloc,
-        faults,
+        violations,
         credential.username.as_bytes().is_empty(),
         "username",
         Rule::Required,
     )?;
     tell_if(
         alloc,
-        faults,
+        violations,
         credential.hash.as_bytes().is_empty(),
         "password",
         Rule::Required,
@@ -261,7 +264,7 @@ pub fn set_acl(alloc: Global, body: &Value, links: &Links, row: &mut AclRow) -> 
     set(&mut row.consumer, links.consumer);
     set(
         &mut row.group,
-        text_at(alloc, Word::FreeText, "group", body)?,
+        text_at(alloc, TextKind::FreeText, "group", body)?,
     );
     Ok(())
 }
@@ -269,17 +272,17 @@ pub fn set_acl(alloc: Global, body: &Value, links: &Links, row: &mut AclRow) -> 
 /// Tells the rules between the fields of a membership.
 pub fn tell_acl(
     alloc: Global,
-    faults: &mut Faults,
+    violations: &mut Violations,
     base: &Base<'_>,
     links: &Links,
     membership: &AclRow,
 ) -> Result<(), NoMemory>
-    ensures { OnOk result (faults.new ≡ fold tell faults.old (acl_faults (base_of base.now) links.now membership.now)) }
+    ensures { OnOk result (violations.new ≡ fold tell violations.old (acl_violations (base_of base.now) links.now membership.now)) }
 {
-    tell_owner(alloc, faults, links, acl_owner(base))?;
+    tell_owner(alloc, violations, links, acl_owner(base))?;
     tell_if(
         alloc,
-        faults,
+        violations,
         membership.group.as_bytes().is_empty(),
         "group",
         Rule::Required,

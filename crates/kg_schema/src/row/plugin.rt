@@ -4,7 +4,7 @@ ghost use Rattle.std.specs.Prelude.{◌≡◌, IfOk, OnOk, codes, fold};
 ghost use Rattle.serde_json.specs.View.{view};
 ghost use Rattle.kg_row_types.specs.ValidRows.{is_for_no_consumer};
 ghost use Rattle.kg_row_making.specs.Bases.{base_of};
-ghost use Rattle.kg_schema.specs.Between.{config_faults, groups_faults, has_both, has_neither, ip_restriction_faults, known_plugin_faults, config_field_faults, old_plugin, plugin_faults, rate_limiting_faults, termination_faults, unnamed_config_faults};
+ghost use Rattle.kg_schema.specs.Between.{config_violations, groups_violations, has_both, has_neither, ip_restriction_violations, known_plugin_violations, config_field_violations, old_plugin, plugin_violations, rate_limiting_violations, termination_violations, unnamed_config_violations};
 ghost use Rattle.kg_schema.specs.Finished.{plugin_before, plugin_over, scope_over};
 ghost use Rattle.kg_field_rules.specs.Rules.{tell};
 ghost use Rattle.kg_bodies.specs.Settings.{inside};
@@ -12,8 +12,8 @@ ghost use Rattle.kg_bodies.specs.Settings.{inside};
 use crate::row::tell::tell_if;
 use kg_bodies::fields::{judge_members, named_plugin};
 use kg_bodies::settings::flag_at;
-use kg_field_rules::fault::Faults;
 use kg_field_rules::rule::Rule;
+use kg_field_rules::violations::Violations;
 use kg_field_tables::table::Table;
 use kg_row_making::base::{Base, Links, Stamps};
 use kg_row_making::config::set_config;
@@ -90,33 +90,33 @@ pub fn old_plugin(base: &Base<'_>) -> Option<PluginName>
 /// the old row's name.
 pub fn tell_plugin(
     alloc: Global,
-    faults: &mut Faults,
+    violations: &mut Violations,
     body: &Value,
     base: &Base<'_>,
     plugin: &PluginRow,
 ) -> Result<(), NoMemory>
-    ensures { OnOk result (faults.new ≡ fold tell faults.old (plugin_faults (view body.now) (base_of base.now) plugin.now)) }
+    ensures { OnOk result (violations.new ≡ fold tell violations.old (plugin_violations (view body.now) (base_of base.now) plugin.now)) }
 {
-    tell_unnamed_config(alloc, faults, body, base)?;
+    tell_unnamed_config(alloc, violations, body, base)?;
     if named_plugin(body).is_none() && old_plugin(base).is_none() {
-        tell_if(alloc, faults, true, "name", Rule::Required)
+        tell_if(alloc, violations, true, "name", Rule::Required)
     } else {
-        tell_known(alloc, faults, plugin)
+        tell_known(alloc, violations, plugin)
     }
 }
 
 fn tell_unnamed_config(
     alloc: Global,
-    faults: &mut Faults,
+    violations: &mut Violations,
     body: &Value,
     base: &Base<'_>,
 ) -> Result<(), NoMemory>
-    ensures { OnOk result (faults.new ≡ fold tell faults.old (unnamed_config_faults (view body.now) (base_of base.now))) }
+    ensures { OnOk result (violations.new ≡ fold tell violations.old (unnamed_config_violations (view body.now) (base_of base.now))) }
 {
     match named_plugin(body) {
         Some(_) => Ok(()),
         None => match old_plugin(base) {
-            Some(name) => tell_config_fields(alloc, faults, body, name),
+            Some(name) => tell_config_fields(alloc, violations, body, name),
             None => Ok(()),
         },
     }
@@ -124,25 +124,29 @@ fn tell_unnamed_config(
 
 fn tell_config_fields(
     alloc: Global,
-    faults: &mut Faults,
+    violations: &mut Violations,
     body: &Value,
     name: PluginName,
 ) -> Result<(), NoMemory>
-    ensures { OnOk result (faults.new ≡ fold tell faults.old (config_field_faults (inside (codes "config") (view body.now)) name)) }
+    ensures { OnOk result (violations.new ≡ fold tell violations.old (config_field_violations (inside (codes "config") (view body.now)) name)) }
 {
     let null = Value::Null;
     match member_or("config", body, &null).as_object() {
-        Some(members) => judge_members(alloc, members, Table::Config(name), "config.", faults),
+        Some(members) => judge_members(alloc, members, Table::Config(name), "config.", violations),
         None => Ok(()),
     }
 }
 
-fn tell_known(alloc: Global, faults: &mut Faults, plugin: &PluginRow) -> Result<(), NoMemory>
-    ensures { OnOk result (faults.new ≡ fold tell faults.old (known_plugin_faults plugin.now)) }
+fn tell_known(
+    alloc: Global,
+    violations: &mut Violations,
+    plugin: &PluginRow,
+) -> Result<(), NoMemory>
+    ensures { OnOk result (violations.new ≡ fold tell violations.old (known_plugin_violations plugin.now)) }
 {
     let barred = is_for_no_consumer(&plugin.config) && plugin.scope.consumer.is_some();
-    tell_if(alloc, faults, barred, "consumer", Rule::Fixed)?;
-    tell_config(alloc, faults, &plugin.config)
+    tell_if(alloc, violations, barred, "consumer", Rule::Fixed)?;
+    tell_config(alloc, violations, &plugin.config)
 }
 
 // Does the plugin run before a consumer is known, or make one known?
@@ -163,14 +167,14 @@ fn is_for_no_consumer(config: &Config) -> bool
     }
 }
 
-fn tell_config(alloc: Global, faults: &mut Faults, config: &Config) -> Result<(), NoMemory>
-    ensures { OnOk result (faults.new ≡ fold tell faults.old (config_faults config.now)) }
+fn tell_config(alloc: Global, violations: &mut Violations, config: &Config) -> Result<(), NoMemory>
+    ensures { OnOk result (violations.new ≡ fold tell violations.old (config_violations config.now)) }
 {
     match config {
-        Config::Acl(config) => tell_groups(alloc, faults, config),
-        Config::IpRestriction(config) => tell_ip_restriction(alloc, faults, config),
-        Config::RateLimiting(config) => tell_rate_limiting(alloc, faults, config),
-        Config::RequestTermination(config) => tell_termination(alloc, faults, config),
+        Config::Acl(config) => tell_groups(alloc, violations, config),
+        Config::IpRestriction(config) => tell_ip_restriction(alloc, violations, config),
+        Config::RateLimiting(config) => tell_rate_limiting(alloc, violations, config),
+        Config::RequestTermination(config) => tell_termination(alloc, violations, config),
         Config::Cors(_) => Ok(()),
         Config::KeyAuth(_) => Ok(()),
         Config::BasicAuth(_) => Ok(()),
@@ -192,49 +196,55 @@ fn has_neither(a: &List<Text>, b: &List<Text>) -> bool
     a.as_slice().is_empty() && b.as_slice().is_empty()
 }
 
-fn tell_groups(alloc: Global, faults: &mut Faults, config: &Acl) -> Result<(), NoMemory>
-    ensures { OnOk result (faults.new ≡ fold tell faults.old (groups_faults config.now)) }
+fn tell_groups(alloc: Global, violations: &mut Violations, config: &Acl) -> Result<(), NoMemory>
+    ensures { OnOk result (violations.new ≡ fold tell violations.old (groups_violations config.now)) }
 {
     let both = has_both(&config.allow, &config.deny);
-    tell_if(alloc, faults, both, "config.allow", Rule::Exclusive)?;
+    tell_if(alloc, violations, both, "config.allow", Rule::Exclusive)?;
     let neither = has_neither(&config.allow, &config.deny);
-    tell_if(alloc, faults, neither, "config.allow", Rule::Required)
+    tell_if(alloc, violations, neither, "config.allow", Rule::Required)
 }
 
 fn tell_ip_restriction(
     alloc: Global,
-    faults: &mut Faults,
+    violations: &mut Violations,
     config: &IpRestriction,
 ) -> Result<(), NoMemory>
-    ensures { OnOk result (faults.new ≡ fold tell faults.old (ip_restriction_faults config.now)) }
+    ensures { OnOk result (violations.new ≡ fold tell violations.old (ip_restriction_violations config.now)) }
 {
     let neither = has_neither(&config.allow, &config.deny);
-    tell_if(alloc, faults, neither, "config.allow", Rule::Required)
+    tell_if(alloc, violations, neither, "config.allow", Rule::Required)
 }
 
 fn tell_rate_limiting(
     alloc: Global,
-    faults: &mut Faults,
+    violations: &mut Violations,
     config: &RateLimiting,
 ) -> Result<(), NoMemory>
-    ensures { OnOk result (faults.new ≡ fold tell faults.old (rate_limiting_faults config.now)) }
+    ensures { OnOk result (violations.new ≡ fold tell violations.old (rate_limiting_violations config.now)) }
 {
     let unlimited = config.second.is_none()
         && config.minute.is_none()
         && config.hour.is_none()
         && config.day.is_none();
-    tell_if(alloc, faults, unlimited, "config.minute", Rule::Required)
+    tell_if(
+        alloc,
+        violations,
+        unlimited,
+        "config.minute",
+        Rule::Required,
+    )
 }
 
 fn tell_termination(
     alloc: Global,
-    faults: &mut Faults,
+    violations: &mut Violations,
     config: &Termination,
 ) -> Result<(), NoMemory>
-    ensures { OnOk result (faults.new ≡ fold tell faults.old (termination_faults config.now)) }
+    ensures { OnOk result (violations.new ≡ fold tell violations.old (termination_violations config.now)) }
 {
     let both = config.message.is_some() && config.body.is_some();
-    tell_if(alloc, faults, both, "config.message", Rule::Exclusive)?;
+    tell_if(alloc, violations, both, "config.message", Rule::Exclusive)?;
     let bare = config.content_type.is_some() && config.body.is_none();
-    tell_if(alloc, faults, bare, "config.body", Rule::Required)
+    tell_if(alloc, violations, bare, "config.body", Rule::Required)
 }

@@ -3,18 +3,18 @@
 ghost use Rattle.std.specs.Prelude.{◌≡◌, [], IfOk, OnOk, fold};
 ghost use Rattle.serde_json.specs.View.{view};
 ghost use Rattle.kg_row_making.specs.Bases.{base_of};
-ghost use Rattle.kg_schema.specs.Between.{fits_nothing, route_faults};
+ghost use Rattle.kg_schema.specs.Between.{fits_nothing, route_violations};
 ghost use Rattle.kg_schema.specs.Finished.{route_before, route_over};
 ghost use Rattle.kg_field_rules.specs.Rules.{tell};
-ghost use Rattle.kg_field_tables.specs.BrokenRules.{field_faults};
+ghost use Rattle.kg_field_tables.specs.BrokenRules.{field_violations};
 ghost use Rattle.kg_row_types.specs.declared.entity.Kind.TheVariants as kind;
 
 use crate::row::tell::{is_missing, tell_if};
 use kg_bodies::header_tests::tests_at;
 use kg_bodies::settings::{flag_at, https_at, integer_at, paths_at, text_at, texts_at};
-use kg_field_rules::fault::Faults;
 use kg_field_rules::rule::Rule;
-use kg_field_rules::word::Word;
+use kg_field_rules::text_kind::TextKind;
+use kg_field_rules::violations::Violations;
 use kg_row_making::base::{Base, Links, Stamps};
 use kg_row_making::set::{narrow_signed, set, set_list, set_option};
 use kg_row_types::route::Route;
@@ -57,19 +57,19 @@ pub fn set_route(
     links: &Links,
     row: &mut Route,
 ) -> Result<(), NoMemory>
-    requires { field_faults kind.Route (view body.now) ≡ [] }
+    requires { field_violations kind.Route (view body.now) ≡ [] }
     ensures { OnOk result (row.new ≡ route_over (view body.now) links.now row.old) }
 {
-    set_option(&mut row.name, text_at(alloc, Word::Name, "name", body)?);
+    set_option(&mut row.name, text_at(alloc, TextKind::Name, "name", body)?);
     set(&mut row.service, links.service);
     set(&mut row.https, https_at(alloc, body)?);
     set_list(
         &mut row.methods,
-        texts_at(alloc, Word::Method, "methods", body)?,
+        texts_at(alloc, TextKind::Method, "methods", body)?,
     );
     set_list(
         &mut row.hosts,
-        texts_at(alloc, Word::RouteHost, "hosts", body)?,
+        texts_at(alloc, TextKind::RouteHost, "hosts", body)?,
     );
     set_list(&mut row.paths, paths_at(alloc, body)?);
     set_list(&mut row.headers, tests_at(alloc, body)?);
@@ -85,16 +85,22 @@ pub fn set_route(
 /// Tells the rules between the fields of a route.
 pub fn tell_route(
     alloc: Global,
-    faults: &mut Faults,
+    violations: &mut Violations,
     base: &Base<'_>,
     links: &Links,
     route: &Route,
 ) -> Result<(), NoMemory>
-    ensures { OnOk result (faults.new ≡ fold tell faults.old (route_faults (base_of base.now) links.now route.now)) }
+    ensures { OnOk result (violations.new ≡ fold tell violations.old (route_violations (base_of base.now) links.now route.now)) }
 {
     let missing = is_missing(links.service, base.route());
-    tell_if(alloc, faults, missing, "service", Rule::Required)?;
-    tell_if(alloc, faults, fits_nothing(route), "paths", Rule::Required)
+    tell_if(alloc, violations, missing, "service", Rule::Required)?;
+    tell_if(
+        alloc,
+        violations,
+        fits_nothing(route),
+        "paths",
+        Rule::Required,
+    )
 }
 
 // Is nothing set that a request can fit?

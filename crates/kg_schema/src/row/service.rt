@@ -3,7 +3,7 @@
 ghost use Rattle.std.specs.Prelude.{◌≡◌, IfOk, None, OnOk, fold};
 ghost use Rattle.serde_json.specs.View.{view};
 ghost use Rattle.kg_row_making.specs.Bases.{base_of};
-ghost use Rattle.kg_schema.specs.Between.{doubles_url, service_faults};
+ghost use Rattle.kg_schema.specs.Between.{doubles_url, service_violations};
 ghost use Rattle.kg_schema.specs.Finished.{address_over, service_before, service_over};
 ghost use Rattle.kg_field_rules.specs.Rules.{tell};
 ghost use Rattle.kg_bodies.specs.Settings.{url_at};
@@ -11,9 +11,9 @@ ghost use Rattle.kg_bodies.specs.Settings.{url_at};
 use crate::row::member::is_set_at;
 use crate::row::tell::tell_if;
 use kg_bodies::settings::{flag_at, text_at, url_at, whole_at};
-use kg_field_rules::fault::Faults;
 use kg_field_rules::rule::Rule;
-use kg_field_rules::word::Word;
+use kg_field_rules::text_kind::TextKind;
+use kg_field_rules::violations::Violations;
 use kg_row_making::base::{Base, Stamps};
 use kg_row_making::set::{narrow, set, set_option};
 use kg_row_types::service::Service;
@@ -50,7 +50,7 @@ pub fn set_service(alloc: Global, body: &Value, row: &mut Service) -> Result<(),
     ensures { OnOk result (row.new ≡ service_over (view body.now) row.old) }
 {
     set_address(alloc, body, row)?;
-    set_option(&mut row.name, text_at(alloc, Word::Name, "name", body)?);
+    set_option(&mut row.name, text_at(alloc, TextKind::Name, "name", body)?);
     set(
         &mut row.retries,
         narrow(whole_at(alloc, 0, 32767, "retries", body)?),
@@ -77,28 +77,28 @@ fn set_address(alloc: Global, body: &Value, row: &mut Service) -> Result<(), NoM
 fn set_parts(alloc: Global, body: &Value, row: &mut Service) -> Result<(), NoMemory>
     ensures { OnOk result (row.new ≡ address_over None (view body.now) row.old) }
 {
-    set(&mut row.host, text_at(alloc, Word::Host, "host", body)?);
+    set(&mut row.host, text_at(alloc, TextKind::Host, "host", body)?);
     set(
         &mut row.port,
         narrow(whole_at(alloc, 1, 65535, "port", body)?),
     );
-    set_option(&mut row.path, text_at(alloc, Word::Path, "path", body)?);
+    set_option(&mut row.path, text_at(alloc, TextKind::Path, "path", body)?);
     Ok(())
 }
 
 /// Tells the rules between the fields of a service.
 pub fn tell_service(
     alloc: Global,
-    faults: &mut Faults,
+    violations: &mut Violations,
     body: &Value,
     service: &Service,
 ) -> Result<(), NoMemory>
-    ensures { OnOk result (faults.new ≡ fold tell faults.old (service_faults (view body.now) service.now)) }
+    ensures { OnOk result (violations.new ≡ fold tell violations.old (service_violations (view body.now) service.now)) }
 {
-    tell_if(alloc, faults, doubles_url(body), "url", Rule::Exclusive)?;
+    tell_if(alloc, violations, doubles_url(body), "url", Rule::Exclusive)?;
     tell_if(
         alloc,
-        faults,
+        violations,
         service.host.as_bytes().is_empty(),
         "host",
         Rule::Required,

@@ -2,11 +2,11 @@
 
 ghost use Rattle.std.specs.Prelude.{◌≡◌, OnOk, fold};
 ghost use Rattle.std.specs.Option.{option_copied};
-ghost use Rattle.kg_schema.specs.Between.{fault_if, is_missing};
+ghost use Rattle.kg_schema.specs.Between.{violation_if, is_missing};
 ghost use Rattle.kg_field_rules.specs.Rules.{tell};
 
-use kg_field_rules::fault::Faults;
 use kg_field_rules::rule::Rule;
+use kg_field_rules::violations::Violations;
 use kg_row_types::id::Id;
 use kg_text::{NoMemory, Text};
 use std::alloc::Global;
@@ -14,15 +14,15 @@ use std::alloc::Global;
 /// Tells the rule at this field, if it is broken.
 pub fn tell_if(
     alloc: Global,
-    faults: &mut Faults,
+    violations: &mut Violations,
     broken: bool,
     field: &str,
     rule: Rule,
 ) -> Result<(), NoMemory>
-    ensures { OnOk result (faults.new ≡ fold tell faults.old (fault_if broken field.now rule)) }
+    ensures { OnOk result (violations.new ≡ fold tell violations.old (violation_if broken field.now rule)) }
 {
     if broken {
-        faults.tell(Text::from_str(alloc, field)?, rule)?;
+        violations.tell(Text::from_str(alloc, field)?, rule)?;
     }
     Ok(())
 }

@@ -2,7 +2,7 @@ use Rattle.std.proofs.Common.{◌≡◌, List, ℕ, Bor, true}
 use Rattle.std.specs.List.{list_any}
 use Rattle.std.specs.Str.{bytes_eq}
 use Rattle.std.specs.HashSet.{contains}
-use Rattle.kg_row_types.specs.Words.{are_distinct}
+use Rattle.kg_row_types.specs.TextForms.{are_distinct}
 use Rattle.kg_bodies.proofs.DistinctTexts.{in_front}
 use Rattle.kg_bodies.proofs.texts.are_distinct_strs.Given as goal
 

@@ -3,7 +3,7 @@ use Rattle.kg_declare.specs.Inserting.{Stands, progress_at, with_rows}
 use Rattle.kg_declare.specs.Outcome.{outcome}
 use Rattle.kg_declared_rows.specs.SeenRows.{seen_all}
 use Rattle.kg_declare.specs.Steps.{progress_after}
-use Rattle.kg_declare.proofs.ProgressLemmas.{at_commands, faultless_inserted, from_start, refused_later}
+use Rattle.kg_declare.proofs.ProgressLemmas.{at_commands, unbroken_inserted, from_start, refused_later}
 use Rattle.kg_declare.proofs.StandLemmas.{rows_stand}
 use Rattle.kg_declare.proofs.line.declare.Goals as goal
 
@@ -25,7 +25,7 @@ returns-in-Ok-insert_rows-clause-outcome g c =
       drawn = drawn;
       moved = c.in-Ok-insert_rows.ensures.steps.moved;
       answers = λ more.
-          faultless_inserted c.args.line.now rows c.args.now c.args.limit (drawn ++ more) c.in-Ok.ensures.ok
+          unbroken_inserted c.args.line.now rows c.args.now c.args.limit (drawn ++ more) c.in-Ok.ensures.ok
           ∙ from_start (drawn ++ more) c.args.now c.args.limit rows c.new-made.result _ c.new-made.ensures.start (c.in-Ok-insert_rows.ensures.steps.leaves more)
           ∙ ap Ok (at_commands c.args.limit c.insert_rows.new.made (length drawn) (c.in-Ok-insert_rows.ensures.consistent (c.new-made.ensures.consistent c.args.limit))
           ∙ ap (λ commands. progress_after commands (length drawn)) (sym c.commands_of.ensures.commands));
@@ -51,7 +51,7 @@ returns-in-Err-insert_rows-clause-outcome g c =
       answers = λ more.
           refused_later c.in-Err-insert_rows.e (with_rows (drawn ++ more) c.args.now c.args.limit rows (progress_at c.new-made.result 0))
           (outcome c.args.line.now c.args.now c.args.limit (drawn ++ more)) (length drawn) (length drawn) refl
-          (λ refused is. faultless_inserted c.args.line.now rows c.args.now c.args.limit (drawn ++ more) c.in-Ok.ensures.ok
+          (λ refused is. unbroken_inserted c.args.line.now rows c.args.now c.args.limit (drawn ++ more) c.in-Ok.ensures.ok
           ∙ from_start (drawn ++ more) c.args.now c.args.limit rows c.new-made.result _ c.new-made.ensures.start is)
           (c.in-Err-insert_rows.ensures.steps.leaves more);
     }

@@ -1,5 +1,5 @@
 use Rattle.serde_json.specs.View.{members_view}
-use Rattle.kg_declare.proofs.ProgressLemmas.{faulty_refused, unread_refused}
+use Rattle.kg_declare.proofs.ProgressLemmas.{broken_refused, unread_refused}
 use Rattle.kg_declare.proofs.line.prepared.Goals as goal
 
 pub returns-in-Err : goal.returns-in-Err
@@ -10,4 +10,4 @@ returns-in-Err c = record {
 
 pub returns-in-Err-judge-clause-err : goal.returns-in-Err-judge-clause-err
 returns-in-Err-judge-clause-err c = λ draws now limit.
-    faulty_refused c.args.line.now (members_view c.in-Ok.declaration.entries) now limit draws c.in-Err-judge.e c.in-Ok.ensures.ok c.in-Err-judge.ensures.violation
+    broken_refused c.args.line.now (members_view c.in-Ok.declaration.entries) now limit draws c.in-Err-judge.e c.in-Ok.ensures.ok c.in-Err-judge.ensures.violation

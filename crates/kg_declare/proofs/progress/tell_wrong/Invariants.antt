@@ -1,8 +1,8 @@
 use Rattle.std.proofs.Common.{◌≡◌, fold, map, take}
 use Rattle.kg_field_rules.specs.Rules.{tell}
-use Rattle.kg_declare.specs.Outcome.{wrong_faults}
+use Rattle.kg_declare.specs.Outcome.{wrong_violations}
 use Rattle.kg_declare.proofs.progress.tell_wrong.Given as goal
 
--- the faults so far are told
+-- the violations so far are told
 abbrev pub invariant-loop-name : goal.invariant-loop-name
-invariant-loop-name l = l.faults ≡ fold tell l.initial.faults (wrong_faults (map (λ name. name.now) (take l.name-index l.wrong)))
+invariant-loop-name l = l.violations ≡ fold tell l.initial.violations (wrong_violations (map (λ name. name.now) (take l.name-index l.wrong)))

@@ -6,4 +6,4 @@ use Rattle.kg_rows.proofs.pages.put_rows.Given as goal
 
 -- the rows so far are shown
 abbrev pub invariant-loop-id : goal.invariant-loop-id
-invariant-loop-id l = l.shown ≡ l.initial.shown ++ flat_map (λ id. option_to_list (row_with_id l.kind id (rows_in l.place l.rows))) (take l.id-index l.ids)
+invariant-loop-id l = l.shown ≡ l.initial.shown ++ flat_map (λ id. option_to_list (row_with_id l.kind id (rows_in l.collection l.rows))) (take l.id-index l.ids)

@@ -1,7 +1,7 @@
 use Rattle.std.proofs.Common.{◌≡◌, ◌∙◌, ◌==◌, true, ap, sym}
 use Rattle.std.specs.List.{before_first}
 use Rattle.kg_text.specs.Paths.{slash}
-use Rattle.kg_row_types.specs.ConfigWords.{is_ipv4}
+use Rattle.kg_row_types.specs.ConfigTexts.{is_ipv4}
 use Rattle.kg_field_rules.proofs.TextLemmas.{behind_first, from_first-empty}
 use Rattle.kg_field_rules.proofs.text_rule.block.has_ipv4_block_form.Goals as goal
 

@@ -1,4 +1,4 @@
-use Rattle.kg_row_types.specs.ConfigWords.{is_decimal_within}
+use Rattle.kg_row_types.specs.ConfigTexts.{is_decimal_within}
 use Rattle.kg_field_rules.proofs.TextLemmas.{length-now, list_all-now}
 use Rattle.kg_field_rules.proofs.text_rule.block.is_ipv4.Goals as goal
 

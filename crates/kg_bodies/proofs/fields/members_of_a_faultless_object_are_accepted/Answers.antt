@@ -1,5 +1,0 @@
-use Rattle.kg_bodies.proofs.AcceptedLemmas.{members_accepted}
-use Rattle.kg_bodies.proofs.fields.members_of_a_faultless_object_are_accepted.Goals as goal
-
-pub returns : goal.returns
-returns c = members_accepted
