@@ -6,7 +6,8 @@ use Rattle.std.specs.Char.{is_ascii_digit}
 use Rattle.std.specs.Str.Parse.{digits_value}
 use Rattle.kg_text.specs.Paths.{slash}
 use Rattle.kg_row_types.specs.ConfigTexts.{colon}
-use Rattle.kg_row_types.specs.TextForms.{is_host, is_normal_path}
+use Rattle.kg_text.specs.Hosts.{is_host}
+use Rattle.kg_row_types.specs.TextForms.{is_normal_path}
 use Rattle.kg_field_rules.specs.declared.url.Url.{Url}
 
 -- `x ← reading` goes on with what was read

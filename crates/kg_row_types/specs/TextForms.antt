@@ -6,6 +6,7 @@ use Rattle.std.specs.Option.{option_map_or}
 use Rattle.std.specs.Int.{is_in_range}
 use Rattle.std.specs.Char.{is_ascii_alphanumeric, is_ascii_digit, is_ascii_uppercase, is_control}
 use Rattle.std.specs.Str.{bytes_eq, chars, str_to_ascii_lowercase}
+use Rattle.kg_text.specs.Hosts.{has_host_form}
 use Rattle.kg_text.specs.Paths.{normal_form}
 use Rattle.kg_row_types.specs.Ids.{id_of, printed}
 use Rattle.kg_row_types.specs.Patterns.{is_pattern}
@@ -57,17 +58,6 @@ abbrev pub is_hash : List ℕ → Bool
 is_hash text = length text == 64 && list_all (λ b. is_ascii_digit b || is_in_range 0x61 0x66 b) text
 
 -- ---- hosts
-
--- a letter, a digit, `.`, `-` or `_`
-abbrev pub is_host_byte : ℕ → Bool
-is_host_byte b = is_one_of (codes ".-_") b
-
-abbrev pub has_host_form : List ℕ → Bool
-has_host_form text = list_all is_host_byte text
-
--- the host of a service
-abbrev pub is_host : List ℕ → Bool
-is_host text = has_length 255 text && has_host_form text
 
 -- `*` alone, or as the leftmost label before others, or as the rightmost label behind others
 abbrev pub has_wildcard_form : List ℕ → Bool

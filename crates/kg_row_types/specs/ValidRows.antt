@@ -11,7 +11,8 @@ use Rattle.kg_row_types.specs.ConfigTexts.{is_key_name, is_ipv4_block, is_edit, 
 use Rattle.kg_row_types.specs.Ids.{IsId}
 use Rattle.kg_row_types.specs.PluginNames.{plugin_of, same_plugin}
 use Rattle.kg_row_types.specs.RowLists.{RowLists}
-use Rattle.kg_row_types.specs.TextForms.{is_name, is_free_text, is_text_within, is_username, is_printed_if_id, is_hash, is_host, is_stored_route_host, is_normal_path, is_route_path, is_method, is_list_of, is_set}
+use Rattle.kg_text.specs.Hosts.{is_host}
+use Rattle.kg_row_types.specs.TextForms.{is_name, is_free_text, is_text_within, is_username, is_printed_if_id, is_hash, is_stored_route_host, is_normal_path, is_route_path, is_method, is_list_of, is_set}
 use Rattle.kg_row_types.specs.declared.config.Acl.{Acl}
 use Rattle.kg_row_types.specs.declared.config.BasicAuth.{BasicAuth}
 use Rattle.kg_row_types.specs.declared.config.Config.{Config}

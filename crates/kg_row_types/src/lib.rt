@@ -8,6 +8,5 @@ pub mod id;
 pub mod key;
 pub mod plugin;
 pub mod route;
-pub mod row;
 pub mod service;
 pub mod value;

@@ -9,7 +9,8 @@ use Rattle.std.specs.Int.{is_in_range}
 use Rattle.std.specs.List.{ends_with, list_any, starts_with}
 use Rattle.std.specs.Str.{bytes_eq, str_to_ascii_lowercase}
 use Rattle.kg_text.specs.SameBytes.{same_bytes}
-use Rattle.kg_row_types.specs.TextForms.{has_host_form, has_length, has_route_host_form, has_wildcard_form, is_host_byte, is_stored_route_host, is_route_host}
+use Rattle.kg_text.specs.Hosts.{has_host_form, is_host_byte}
+use Rattle.kg_row_types.specs.TextForms.{has_length, has_route_host_form, has_wildcard_form, is_stored_route_host, is_route_host}
 use Rattle.kg_schema.proofs.ReadTexts.{Takes, bounded}
 use Rattle.kg_field_rules.specs.declared.text_kind.TextKind.TheVariants as text_kind
 

@@ -10,7 +10,8 @@ use Rattle.kg_text.specs.Paths.{normal_form}
 use Rattle.uuid.proofs.TextLemmas.{by_index_length}
 use Rattle.kg_row_types.proofs.IdLemmas.{id_of-printed}
 use Rattle.kg_row_types.specs.Ids.{id_of, printed}
-use Rattle.kg_row_types.specs.TextForms.{has_length, is_free_text, is_host, is_name, is_normal_path, is_username}
+use Rattle.kg_text.specs.Hosts.{is_host}
+use Rattle.kg_row_types.specs.TextForms.{has_length, is_free_text, is_name, is_normal_path, is_username}
 use Rattle.kg_field_rules.specs.TextRules.{has_form, stored, longest, text_rule}
 use Rattle.kg_field_rules.specs.declared.rule.Rule.{Rule}
 use Rattle.kg_field_rules.specs.declared.rule.Rule.TheVariants.{Empty, OutOfRange, Syntax}

@@ -8,7 +8,8 @@ use Rattle.std.specs.Prelude.{IfSome, IsTrue}
 use Rattle.std.specs.Str.Parse.{digits_value, digits_value_after}
 use Rattle.kg_text.specs.Paths.{slash}
 use Rattle.kg_row_types.specs.ConfigTexts.{colon}
-use Rattle.kg_row_types.specs.TextForms.{is_host, is_normal_path}
+use Rattle.kg_text.specs.Hosts.{is_host}
+use Rattle.kg_row_types.specs.TextForms.{is_normal_path}
 use Rattle.serde_json.specs.Data.{Data}
 use Rattle.serde_json.specs.Find.{as_str, get}
 use Rattle.kg_bodies.specs.Settings.{url_at}

@@ -4,7 +4,8 @@ use Rattle.std.specs.Prelude.{IfSome, IsTrue}
 use Rattle.serde_json.specs.Data.{Data}
 use Rattle.kg_row_types.specs.Ids.{IsId}
 use Rattle.kg_row_types.specs.ValidRows.{IsValidService}
-use Rattle.kg_row_types.specs.TextForms.{is_host, is_name, is_normal_path}
+use Rattle.kg_text.specs.Hosts.{is_host}
+use Rattle.kg_row_types.specs.TextForms.{is_name, is_normal_path}
 use Rattle.kg_row_types.specs.declared.entity.Entity.TheVariants as row
 use Rattle.kg_row_types.specs.declared.entity.Kind.TheVariants as kind
 use Rattle.kg_row_types.specs.declared.service.Service.{Service}

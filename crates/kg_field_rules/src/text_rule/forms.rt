@@ -5,7 +5,8 @@ ghost use Rattle.std.specs.List.{list_all, list_any, prefix_len, starts_with, en
 ghost use Rattle.std.specs.Char.{is_ascii_uppercase, is_control};
 ghost use Rattle.std.specs.Str.{chars};
 ghost use Rattle.kg_text.specs.Names.{is_tchar, is_token};
-ghost use Rattle.kg_row_types.specs.TextForms.{has_host_form, has_method_form, has_name_form, has_no_controls, has_route_host_form, has_username_form, has_wildcard_form, is_host, is_host_byte, is_normal_path, is_one_of};
+ghost use Rattle.kg_text.specs.Hosts.{has_host_form, is_host, is_host_byte};
+ghost use Rattle.kg_row_types.specs.TextForms.{has_method_form, has_name_form, has_no_controls, has_route_host_form, has_username_form, has_wildcard_form, is_normal_path, is_one_of};
 
 use kg_row_types::id::Id;
 use kg_text::is_normal;
