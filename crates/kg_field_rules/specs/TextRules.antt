@@ -2,10 +2,10 @@
 use Rattle.std.specs.Prelude.{ℕ, ◌==◌, Bool, false, not, List, ◌++◌, length, nat_lt, Option, Some, None, is_some}
 use Rattle.std.specs.Option.{option_map_or}
 use Rattle.std.specs.Str.{str_to_ascii_lowercase}
+use Rattle.kg_text.specs.Hosts.{has_host_form}
 use Rattle.kg_text.specs.Names.{is_token}
 use Rattle.kg_row_types.specs.ConfigTexts.{is_ipv4_block, has_edit_form, has_header_edit_form, has_header_rename_form}
 use Rattle.kg_row_types.specs.Ids.{id_of, printed}
-use Rattle.kg_text.specs.Hosts.{has_host_form}
 use Rattle.kg_row_types.specs.TextForms.{has_name_form, has_no_controls, has_username_form, has_route_host_form, is_normal_path, has_route_path_form, has_method_form}
 use Rattle.kg_field_rules.specs.Choices.{is_choice}
 use Rattle.kg_field_rules.specs.Rules.{broken_if, first_by_rank}

@@ -4,9 +4,9 @@ use Rattle.std.specs.Prelude.{◌==◌, ℕ, Bool, ◌&&◌, List, length, drop,
 use Rattle.std.specs.List.{list_all, starts_with, before_first, position_or_len}
 use Rattle.std.specs.Char.{is_ascii_digit}
 use Rattle.std.specs.Str.Parse.{digits_value}
+use Rattle.kg_text.specs.Hosts.{is_host}
 use Rattle.kg_text.specs.Paths.{slash}
 use Rattle.kg_row_types.specs.ConfigTexts.{colon}
-use Rattle.kg_text.specs.Hosts.{is_host}
 use Rattle.kg_row_types.specs.TextForms.{is_normal_path}
 use Rattle.kg_field_rules.specs.declared.url.Url.{Url}
 

@@ -13,15 +13,14 @@ use crate::rule::Rule;
 use crate::text_kind::{Choice, TextKind};
 use crate::text_rule::block::is_ipv4_block;
 use crate::text_rule::edit::{has_edit_form, has_header_edit_form, has_header_rename_form};
+pub use crate::text_rule::forms::is_normal_path;
 use crate::text_rule::forms::{
-    has_host_form, has_method_form, has_name_form, has_no_controls, has_route_host_form,
-    has_username_form,
+    has_method_form, has_name_form, has_no_controls, has_route_host_form, has_username_form,
 };
-pub use crate::text_rule::forms::{is_host, is_normal_path, is_token};
 use crate::text_rule::pattern::has_route_path_form;
 use crate::url::is_url;
 use kg_row_types::id::Id;
-use kg_text::NoMemory;
+use kg_text::{NoMemory, has_host_form, is_token};
 use std::alloc::Global;
 
 /// The first rule that a text of a kind breaks.

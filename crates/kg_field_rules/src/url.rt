@@ -6,8 +6,8 @@ ghost use Rattle.kg_field_rules.specs.UrlParts.{are_ascii, parts_seen};
 ghost use Rattle.kg_field_rules.specs.Urls.{after_scheme, host_of, is_numeral, port_number, port_of, url_of, url_path_of};
 
 use crate::parts::{are_digits, number_of, split_before, text_of};
-use crate::text_rule::{is_host, is_normal_path};
-use kg_text::{NoMemory, Text};
+use crate::text_rule::is_normal_path;
+use kg_text::{NoMemory, Text, is_host};
 use std::alloc::Global;
 
 /// Where a service's url leads to.

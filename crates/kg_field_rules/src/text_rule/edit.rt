@@ -5,7 +5,8 @@ ghost use Rattle.std.specs.Str.{str_eq_ignore_ascii_case};
 ghost use Rattle.kg_row_types.specs.ConfigTexts.{after_first, colon, edit_name, edit_value, has_edit_form, has_header_edit_form, has_header_rename_form, has_template, is_barred};
 
 use crate::parts::split_before;
-use crate::text_rule::forms::{has_no_controls, is_token};
+use crate::text_rule::forms::has_no_controls;
+use kg_text::is_token;
 
 /// A member whose name isn't barred, and whose value holds no template.
 pub fn has_edit_form(text: &str) -> bool

@@ -1,15 +1,14 @@
 //! How names, hosts, methods and free texts are spelled.
 
 ghost use Rattle.std.specs.Prelude.{◌≡◌, ◌==◌, ◌-◌, ◌≤◌, ◌&&◌, length, nat_eq, drop, take, codes};
-ghost use Rattle.std.specs.List.{list_all, list_any, prefix_len, starts_with, ends_with};
+ghost use Rattle.std.specs.List.{list_all, list_any, starts_with, ends_with};
 ghost use Rattle.std.specs.Char.{is_ascii_uppercase, is_control};
 ghost use Rattle.std.specs.Str.{chars};
-ghost use Rattle.kg_text.specs.Names.{is_tchar, is_token};
-ghost use Rattle.kg_text.specs.Hosts.{has_host_form, is_host, is_host_byte};
+ghost use Rattle.kg_text.specs.Hosts.{has_host_form};
 ghost use Rattle.kg_row_types.specs.TextForms.{has_method_form, has_name_form, has_no_controls, has_route_host_form, has_username_form, has_wildcard_form, is_normal_path, is_one_of};
 
 use kg_row_types::id::Id;
-use kg_text::is_normal;
+use kg_text::{has_host_form, is_normal};
 
 /// Letters, digits, `.`, `-`, `_` and `~`, and no id.
 pub fn has_name_form(text: &[u8]) -> bool
@@ -57,27 +56,7 @@ pub fn has_username_form(text: &str) -> bool
     has_no_controls(text) && Id::parse(text.as_bytes()).is_none()
 }
 
-/// From 1 to 255 letters, digits, `.`, `-` and `_`.
-pub fn is_host(text: &[u8]) -> bool
-    ensures { result ≡ is_host text.now }
-{
-    !text.is_empty() && text.len() <= 255 && has_host_form(text)
-}
-
-/// Letters, digits, `.`, `-` and `_`.
-pub fn has_host_form(text: &[u8]) -> bool
-    ensures { result ≡ has_host_form text.now }
-{
-    text.iter().all(|b| is_host_byte(*b))
-}
-
-fn is_host_byte(b: u8) -> bool
-    ensures { result ≡ is_host_byte b }
-{
-    is_one_of(b, b".-_")
-}
-
-/// Such a host, or one with `*` as its leftmost or rightmost label.
+/// A host, or one with `*` as its leftmost or rightmost label.
 pub fn has_route_host_form(text: &[u8]) -> bool
     ensures { result ≡ has_route_host_form text.now }
 {
@@ -126,25 +105,4 @@ pub fn has_method_form(text: &[u8]) -> bool
     ensures { result ≡ has_method_form text.now }
 {
     text.iter().all(|b| b.is_ascii_uppercase())
-}
-
-/// A token (RFC 9110, section 5.6.2).
-pub fn is_token(text: &[u8]) -> bool
-    ensures { result ≡ is_token text.now }
-{
-    !text.is_empty() && token_len(text) == text.len()
-}
-
-// How many bytes from the front may stand in a token.
-fn token_len(text: &[u8]) -> usize
-    ensures { result ≡ prefix_len is_tchar text.now }
-{
-    text.iter().take_while(|b| is_tchar(**b)).count()
-}
-
-// A tchar: a letter, a digit or one of fifteen marks.
-fn is_tchar(b: u8) -> bool
-    ensures { result ≡ is_tchar b }
-{
-    b.is_ascii_alphanumeric() || b"!#$%&'*+-.^_`|~".contains(&b)
 }
