@@ -2,7 +2,6 @@
 
 ghost use Rattle.std.specs.Prelude.{◌≡◌, ◌+◌, ◌++◌, IfOk, IfSome, OnOk, fold};
 ghost use Rattle.serde_json.specs.View.{members_view, view};
-ghost use Rattle.kg_row_types.specs.PluginNames.{plugin_named};
 ghost use Rattle.kg_field_tables.specs.Accepted.{AcceptsMembers};
 ghost use Rattle.kg_field_tables.specs.BrokenRules.{violations_in, violations_inside, field_violations, field_rule, named_plugin, object_rule, table_inside, told};
 ghost use Rattle.kg_field_tables.specs.Depths.{depth_of, levels};
@@ -36,27 +35,8 @@ pub fn named_plugin(body: &Value) -> Option<PluginName>
     ensures { result ≡ named_plugin (view body.now) }
 {
     match body.get("name").and_then(Value::as_str) {
-        Some(name) => plugin_named(name),
+        Some(name) => PluginName::named(name),
         None => None,
-    }
-}
-
-/// The plugin of this name.
-pub fn plugin_named(name: &str) -> Option<PluginName>
-    ensures { result ≡ plugin_named name.now }
-{
-    match name {
-        "cors" => Some(PluginName::Cors),
-        "key-auth" => Some(PluginName::KeyAuth),
-        "basic-auth" => Some(PluginName::BasicAuth),
-        "ip-restriction" => Some(PluginName::IpRestriction),
-        "request-size-limiting" => Some(PluginName::RequestSizeLimiting),
-        "acl" => Some(PluginName::Acl),
-        "rate-limiting" => Some(PluginName::RateLimiting),
-        "request-transformer" => Some(PluginName::RequestTransformer),
-        "response-transformer" => Some(PluginName::ResponseTransformer),
-        "request-termination" => Some(PluginName::RequestTermination),
-        _ => None,
     }
 }
 
@@ -173,6 +153,6 @@ fn object_rule(value: &Value) -> Option<Rule>
 }
 
 /// Each member of an object without violations is accepted, by itself and inside: a law, for proofs.
-pub fn members_of_a_unbroken_object_are_accepted()
+pub fn members_of_an_unbroken_object_are_accepted()
     ensures { AcceptsMembers }
 {}

@@ -1,6 +1,7 @@
 //! Bodies of JSON judged by the tables of fields: which rules a body breaks, and what it sets.
 #![tactic(auto)]
 
+pub mod by_table;
 pub mod fields;
 pub mod form;
 pub mod header_tests;

@@ -1,10 +1,7 @@
 //! What a body sets, field by field. A value that breaks a rule of its field sets nothing.
 
-ghost use Rattle.std.specs.Prelude.{◌≡◌, ◌≤◌, ◌≤ℤ◌, [], IfOk, IfSome, codes, option_map};
+ghost use Rattle.std.specs.Prelude.{◌≡◌, ◌≤◌, ◌≤ℤ◌, IfOk, IfSome, option_map};
 ghost use Rattle.serde_json.specs.View.{view};
-ghost use Rattle.kg_row_types.specs.declared.entity.Kind.TheVariants as kind;
-ghost use Rattle.kg_field_rules.specs.declared.text_kind.TextKind.TheVariants as text_kind;
-ghost use Rattle.kg_field_tables.specs.BrokenRules.{field_violations};
 ghost use Rattle.kg_bodies.specs.Settings.{flag_at, https_at, id_at, integer_at, limit_by_at, reference_at, size_unit_at, text_at, texts_at, url_at, value_at, whole_at};
 
 use crate::judge::{has_text, is_set, judged, reference_of};
@@ -69,21 +66,6 @@ pub fn texts_at(
     match value_at(alloc, Shape::Texts(text_kind), name, body)? {
         Some(value) => match texts_of(alloc, value)? {
             Some(texts) => stored_texts(alloc, text_kind, texts.as_slice()),
-            None => Ok(List::new(alloc)),
-        },
-        None => Ok(List::new(alloc)),
-    }
-}
-
-/// The paths of a route, as they are stored. They were judged with the body, and aren't judged again.
-#[tactic(auto, using(crate::proofs::AcceptedLemmas::paths_accepted))]
-pub fn paths_at(alloc: Global, body: &Value) -> Result<List<Text>, NoMemory>
-    requires { field_violations kind.Route (view body.now) ≡ [] }
-    ensures { IfOk result (λ found. found ≡ texts_at text_kind.RoutePath (codes "paths") (view body.now)) }
-{
-    match body.get("paths") {
-        Some(value) => match texts_of(alloc, value)? {
-            Some(texts) => stored_texts(alloc, TextKind::RoutePath, texts.as_slice()),
             None => Ok(List::new(alloc)),
         },
         None => Ok(List::new(alloc)),

@@ -8,7 +8,7 @@ pub use crate::row::{
     accepts_word, base_has_id, finish, finish_under, finished_rows_are_valid, links_are_ids,
     shown_rows_are_read_back,
 };
-pub use kg_bodies::fields::{field_violations, members_of_a_unbroken_object_are_accepted};
+pub use kg_bodies::fields::{field_violations, members_of_an_unbroken_object_are_accepted};
 pub use kg_bodies::form::{Form, FormError, read_form};
 pub use kg_field_rules::rule::Rule;
 pub use kg_field_rules::violations::{Broken, Violations};

@@ -10,8 +10,7 @@ use crate::judge::{is_set, list_rule};
 use crate::texts::{are_distinct, lower_case, texts_of};
 use kg_field_rules::rule::{Rule, sooner};
 use kg_field_rules::text_kind::TextKind;
-use kg_field_rules::text_rule::is_token;
-use kg_text::{List, NoMemory, Text};
+use kg_text::{List, NoMemory, Text, is_token};
 use serde_json::{Map, Value};
 use std::alloc::Global;
 

@@ -1,5 +1,5 @@
 use Rattle.kg_bodies.proofs.AcceptedLemmas.{members_accepted}
-use Rattle.kg_bodies.proofs.fields.members_of_a_unbroken_object_are_accepted.Goals as goal
+use Rattle.kg_bodies.proofs.fields.members_of_an_unbroken_object_are_accepted.Goals as goal
 
 pub returns : goal.returns
 returns c = members_accepted
