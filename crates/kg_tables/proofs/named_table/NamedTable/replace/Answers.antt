@@ -1,0 +1,37 @@
+use Rattle.std.proofs.Common.{◌≡◌, Bool, None, Some, find, is_some, sym, ap, subst, ◌∙◌}
+use Rattle.kg_tables.specs.TextIndexes.{IsIndex, holder_of}
+use Rattle.kg_tables.proofs.TableLemmas.{is_some-find, not_replaced}
+use Rattle.kg_tables.proofs.TextIndexLemmas.{forgotten_alike, has_id, index_replaced, index_same, noted_alike}
+use Rattle.kg_tables.proofs.named_table.NamedTable.replace.Goals as goal
+
+-- no row has the id
+pub invariant_of-self-in_default : goal.invariant_of-self-in_default
+invariant_of-self-in_default g c =
+    let number = g.T.Row.number in
+    let rows = c.self.inside.table in
+    let test : g.row.T.Denot → Bool = has_id number (number c.args.row) in
+    let none : find test rows ≡ None = sym c.in_ok-old.ensures.old ∙ c.in_default.is in
+    let same : rows ≡ c.replace.new.self = not_replaced number c.args.row test rows (sym (is_some-find number test rows) ∙ ap is_some none) ∙ sym c.in_ok-old.ensures.ok in (
+      subst (IsIndex number g.T.Named.name (holder_of c.reserve.new.self)) same (index_same number g.T.Named.name (holder_of c.self.inside.names) (holder_of c.reserve.new.self) rows c.reserve.ensures.same c.self.invariant.0),
+      subst (IsIndex number g.T.Named.alias (holder_of c.reserve-2.new.self)) same (index_same number g.T.Named.alias (holder_of c.self.inside.aliases) (holder_of c.reserve-2.new.self) rows c.reserve-2.ensures.same c.self.invariant.1),
+    )
+
+-- the row's texts take the place of those of the row with its id
+pub invariant_of-self-2 : goal.invariant_of-self-2
+invariant_of-self-2 g c =
+    let number = g.T.Row.number in
+    let row = c.args.row in
+    let old = c.in-Some.old in
+    let rows = c.self.inside.table in
+    let found : find (has_id number (number row)) rows ≡ Some old = sym c.in_ok-old.ensures.old ∙ c.in-Some.is in (
+      subst (IsIndex number g.T.Named.name (holder_of c.exchange.new.self)) (sym c.in_ok-old.ensures.ok)
+          (index_replaced number g.T.Named.name (holder_of c.self.inside.names) (holder_of c.exchange.new.self) old row rows
+          (λ text. c.exchange.ensures text ∙ noted_alike text (c.in_ok-name.ensures ∙ c.name.ensures) c.id-id.ensures
+          (forgotten_alike text c.name-2.ensures c.id-id.ensures (c.reserve.ensures.same text)))
+          found c.ids_differ.ensures c.self.invariant.0),
+      subst (IsIndex number g.T.Named.alias (holder_of c.exchange-2.new.self)) (sym c.in_ok-old.ensures.ok)
+          (index_replaced number g.T.Named.alias (holder_of c.self.inside.aliases) (holder_of c.exchange-2.new.self) old row rows
+          (λ text. c.exchange-2.ensures text ∙ noted_alike text (c.in_ok-alias.ensures ∙ c.alias.ensures) c.id-id.ensures
+          (forgotten_alike text c.alias-2.ensures c.id-id.ensures (c.reserve-2.ensures.same text)))
+          found c.ids_differ.ensures c.self.invariant.1),
+    )
