@@ -3,15 +3,9 @@
 //! Which rows are valid is said by `kg_row_types`; how a body becomes a row, by the crates above.
 #![tactic(auto)]
 
-mod memberships;
-mod named_table;
-mod owner_index;
 mod rows;
-mod table;
-mod text_index;
 
 pub use crate::rows::Rows;
-pub use crate::table::RowTable;
 pub use kg_row_types::config::{
     Acl, BasicAuth, Config, Cors, Edits, IpRestriction, KeyAuth, LimitBy, RateLimiting,
     RequestTransformer, ResponseTransformer, SizeLimit, SizeUnit, Termination,
@@ -22,6 +16,6 @@ pub use kg_row_types::id::Id;
 pub use kg_row_types::key::{GenKey, Key};
 pub use kg_row_types::plugin::{PluginName, PluginRow, Scope};
 pub use kg_row_types::route::{HeaderTest, Route};
-pub use kg_row_types::row::{Owned, Row};
 pub use kg_row_types::service::Service;
 pub use kg_row_types::value::Value;
+pub use kg_tables::{Row, RowTable, Walk};

@@ -1,23 +1,22 @@
 //! All rows.
 
-ghost use Rattle.std.specs.Prelude.{◌≡◌, ◌==◌, ◌&&◌, false, filter, not, OnOk, OnErr};
-ghost use Rattle.std.specs.List.{list_any};
+ghost use Rattle.std.specs.Prelude.{◌≡◌, ◌==◌, ◌&&◌, false, find, OnOk, OnErr};
 ghost use Rattle.std.specs.Str.{bytes_eq};
 ghost use Rattle.std.specs.Option.{option_copied};
 ghost use Rattle.kg_row_types.specs.Entities.{kind_of, id_of_row};
 ghost use Rattle.kg_row_types.specs.Lookups.{is_text, service_named, route_named, consumer_with_username, consumer_with_custom_id, cred_with_key, cred_with_username, named};
 ghost use Rattle.kg_row_types.specs.RowChanges.{has_row, count_of, inserted, updated, removed, without_plugins_of, without_credentials_of};
 ghost use Rattle.kg_row_types.specs.RowLists.{no_rows};
+ghost use Rattle.kg_row_types.specs.ValidRows.{same_name_and_scope};
+ghost use Rattle.kg_tables.specs.Others.{is_other};
 
-use crate::memberships::Memberships;
-use crate::named_table::NamedTable;
-use crate::table::RowTable;
 use kg_row_types::consumer::{AclRow, BasicCred, Consumer, KeyCred};
 use kg_row_types::entity::{Entity, Kind};
 use kg_row_types::id::Id;
 use kg_row_types::plugin::PluginRow;
 use kg_row_types::route::Route;
 use kg_row_types::service::Service;
+use kg_tables::{NamedTable, RowTable, is_other};
 use kg_text::{NoMemory, Text, TryClone};
 use std::alloc::Global;
 use std::marker::Model;
@@ -30,7 +29,7 @@ pub struct Rows {
     consumers: NamedTable<Consumer>,
     key_creds: NamedTable<KeyCred>,
     basic_creds: NamedTable<BasicCred>,
-    acls: Memberships,
+    acls: RowTable<AclRow>,
     plugins: RowTable<PluginRow>,
 }
 
@@ -53,7 +52,7 @@ impl Rows {
             consumers: NamedTable::new(alloc),
             key_creds: NamedTable::new(alloc),
             basic_creds: NamedTable::new(alloc),
-            acls: Memberships::new(alloc),
+            acls: RowTable::new(alloc),
             plugins: RowTable::new(alloc),
         }
     }
@@ -91,7 +90,7 @@ impl Rows {
     pub fn acls(&self) -> &RowTable<AclRow>
         ensures { result.now ≡ self.now.acls }
     {
-        self.acls.table()
+        &self.acls
     }
 
     pub fn plugins(&self) -> &RowTable<PluginRow>
@@ -110,7 +109,7 @@ impl Rows {
             Kind::Consumer => self.consumers.table().contains(id),
             Kind::KeyCred => self.key_creds.table().contains(id),
             Kind::BasicCred => self.basic_creds.table().contains(id),
-            Kind::Acl => self.acls.table().contains(id),
+            Kind::Acl => self.acls.contains(id),
             Kind::Plugin => self.plugins.contains(id),
         }
     }
@@ -125,7 +124,7 @@ impl Rows {
             Kind::Consumer => self.consumers.table().len(),
             Kind::KeyCred => self.key_creds.table().len(),
             Kind::BasicCred => self.basic_creds.table().len(),
-            Kind::Acl => self.acls.table().len(),
+            Kind::Acl => self.acls.len(),
             Kind::Plugin => self.plugins.len(),
         }
     }
@@ -184,53 +183,60 @@ impl Rows {
         self.basic_creds.with_name(text)
     }
 
-    /// The memberships of a consumer, in the order of insertion.
-    pub fn acls_of(&self, consumer: Id) -> &[AclRow]
-        ensures { result.now ≡ filter (λ row. row.consumer == consumer) self.now.acls }
+    /// The first service of another id, where one is told, with this name.
+    pub fn other_service_named(&self, except: Option<Id>, text: &Text) -> Option<&Service>
+        ensures { option_copied result ≡ find (λ row. is_other except row.id && is_text text.now row.name) self.now.services }
     {
-        self.acls.of(consumer)
+        self.services.other_with_name(except, text)
     }
 
-    /// Whether a service of another id has this name.
-    pub fn is_service_name_taken(&self, id: Id, text: &Text) -> bool
-        ensures { result ≡ list_any (λ row. not (row.id == id) && is_text text.now row.name) self.now.services }
+    /// The first route of another id, where one is told, with this name.
+    pub fn other_route_named(&self, except: Option<Id>, text: &Text) -> Option<&Route>
+        ensures { option_copied result ≡ find (λ row. is_other except row.id && is_text text.now row.name) self.now.routes }
     {
-        self.services.is_name_taken(id, text)
+        self.routes.other_with_name(except, text)
     }
 
-    /// Whether a route of another id has this name.
-    pub fn is_route_name_taken(&self, id: Id, text: &Text) -> bool
-        ensures { result ≡ list_any (λ row. not (row.id == id) && is_text text.now row.name) self.now.routes }
+    /// The first consumer of another id, where one is told, with this username.
+    pub fn other_with_username(&self, except: Option<Id>, text: &Text) -> Option<&Consumer>
+        ensures { option_copied result ≡ find (λ row. is_other except row.id && is_text text.now row.username) self.now.consumers }
     {
-        self.routes.is_name_taken(id, text)
+        self.consumers.other_with_name(except, text)
     }
 
-    /// Whether a consumer of another id has this username.
-    pub fn is_username_taken(&self, id: Id, text: &Text) -> bool
-        ensures { result ≡ list_any (λ row. not (row.id == id) && is_text text.now row.username) self.now.consumers }
+    /// The first consumer of another id, where one is told, with this custom id.
+    pub fn other_with_custom_id(&self, except: Option<Id>, text: &Text) -> Option<&Consumer>
+        ensures { option_copied result ≡ find (λ row. is_other except row.id && is_text text.now row.custom_id) self.now.consumers }
     {
-        self.consumers.is_name_taken(id, text)
+        self.consumers.other_with_alias(except, text)
     }
 
-    /// Whether a consumer of another id has this custom id.
-    pub fn is_custom_id_taken(&self, id: Id, text: &Text) -> bool
-        ensures { result ≡ list_any (λ row. not (row.id == id) && is_text text.now row.custom_id) self.now.consumers }
+    /// The first credential of another id, where one is told, with this key.
+    pub fn other_with_key(&self, except: Option<Id>, text: &Text) -> Option<&KeyCred>
+        ensures { option_copied result ≡ find (λ row. is_other except row.id && bytes_eq row.key text.now) self.now.key_creds }
     {
-        self.consumers.is_alias_taken(id, text)
+        self.key_creds.other_with_name(except, text)
     }
 
-    /// Whether a credential of another id has this key.
-    pub fn is_key_taken(&self, id: Id, text: &Text) -> bool
-        ensures { result ≡ list_any (λ row. not (row.id == id) && bytes_eq row.key text.now) self.now.key_creds }
+    /// The first credential of another id, where one is told, with this username.
+    pub fn other_with_login(&self, except: Option<Id>, text: &Text) -> Option<&BasicCred>
+        ensures { option_copied result ≡ find (λ row. is_other except row.id && bytes_eq row.username text.now) self.now.basic_creds }
     {
-        self.key_creds.is_name_taken(id, text)
+        self.basic_creds.other_with_name(except, text)
     }
 
-    /// Whether a credential of another id has this username.
-    pub fn is_login_taken(&self, id: Id, text: &Text) -> bool
-        ensures { result ≡ list_any (λ row. not (row.id == id) && bytes_eq row.username text.now) self.now.basic_creds }
+    /// The first plugin of another id, where one is told, with the name and the scope of this one.
+    pub fn other_like(&self, except: Option<Id>, plugin: &PluginRow) -> Option<&PluginRow>
+        ensures { option_copied result ≡ find (λ other. is_other except other.id && same_name_and_scope other plugin.now) self.now.plugins }
     {
-        self.basic_creds.is_name_taken(id, text)
+        self.plugins.walk().find(|other| is_other(except, other.id) && is_like(other, plugin))
+    }
+
+    /// The first membership of this group.
+    pub fn acl_with_group(&self, text: &Text) -> Option<&AclRow>
+        ensures { option_copied result ≡ find (λ row. bytes_eq row.group text.now) self.now.acls }
+    {
+        self.acls.walk().find(|row| row.group == *text)
     }
 
     /// Adds a copy of a row at the end of the list of its kind.
@@ -245,7 +251,7 @@ impl Rows {
             Entity::Consumer(row) => self.consumers.push(alloc, row.try_clone(alloc)?),
             Entity::KeyCred(row) => self.key_creds.push(alloc, row.try_clone(alloc)?),
             Entity::BasicCred(row) => self.basic_creds.push(alloc, row.try_clone(alloc)?),
-            Entity::Acl(row) => self.acls.push(alloc, row.try_clone(alloc)?),
+            Entity::Acl(row) => self.acls.push(row.try_clone(alloc)?),
             Entity::Plugin(row) => self.plugins.push(row.try_clone(alloc)?),
         }
     }
@@ -261,9 +267,12 @@ impl Rows {
             Entity::Consumer(row) => self.consumers.replace(alloc, row.try_clone(alloc)?),
             Entity::KeyCred(row) => self.key_creds.replace(alloc, row.try_clone(alloc)?),
             Entity::BasicCred(row) => self.basic_creds.replace(alloc, row.try_clone(alloc)?),
-            Entity::Acl(row) => self.acls.replace(alloc, row.try_clone(alloc)?),
+            Entity::Acl(row) => {
+                drop(self.acls.replace(row.try_clone(alloc)?)?);
+                Ok(())
+            }
             Entity::Plugin(row) => {
-                self.plugins.replace(row.try_clone(alloc)?);
+                drop(self.plugins.replace(row.try_clone(alloc)?)?);
                 Ok(())
             }
         }
@@ -279,8 +288,8 @@ impl Rows {
             Kind::Consumer => self.consumers.remove(id),
             Kind::KeyCred => self.key_creds.remove(id),
             Kind::BasicCred => self.basic_creds.remove(id),
-            Kind::Acl => self.acls.remove(id),
-            Kind::Plugin => self.plugins.remove(id),
+            Kind::Acl => drop(self.acls.remove(id)),
+            Kind::Plugin => drop(self.plugins.remove(id)),
         }
     }
 
@@ -295,8 +304,14 @@ impl Rows {
     pub fn remove_credentials_of(&mut self, consumer: Id)
         ensures { self.new ≡ without_credentials_of consumer self.old }
     {
-        self.key_creds.remove_owned(consumer);
-        self.basic_creds.remove_owned(consumer);
-        self.acls.remove_owned(consumer);
+        self.key_creds.remove_of(Kind::Consumer, consumer);
+        self.basic_creds.remove_of(Kind::Consumer, consumer);
+        self.acls.remove_of(Kind::Consumer, consumer);
     }
+}
+
+fn is_like(a: &PluginRow, b: &PluginRow) -> bool
+    ensures { result ≡ same_name_and_scope a.now b.now }
+{
+    a.config.name().is_same(b.config.name()) && a.scope.is_same(&b.scope)
 }

@@ -1,3 +1,0 @@
-mod OwnerLemmas
-mod TableLemmas
-mod TextIndexLemmas

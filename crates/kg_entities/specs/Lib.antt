@@ -1,2 +1,0 @@
-pub mod OwnerIndexes
-pub mod TextIndexes
