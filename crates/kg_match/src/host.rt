@@ -1,12 +1,12 @@
 //! The hosts of a route.
 
-ghost use Rattle.std.specs.Prelude.{◌≡◌, ◌==◌, ◌≤◌, ◌+◌, ◌↔◌, IsTrue, length, nat_eq, nat_lt};
+ghost use Rattle.std.specs.Prelude.{◌≡◌, ◌==◌, ◌≤◌, ◌+◌, length, nat_eq, nat_lt};
 ghost use Rattle.std.specs.List.{list_any, position, starts_with, ends_with};
 ghost use Rattle.std.specs.Str.{str_to_ascii_lowercase};
 ghost use Rattle.kg_match.specs.Attributes.{fits_where};
 ghost use Rattle.kg_match.specs.Wildcards.{asterisk, is_wildcard, is_between, host_fits};
 
-use kg_text::Text;
+use kg_text::{Text, is_lower_case_of};
 
 /// Are no hosts set, or does one of them fit this host, in any case?
 pub fn hosts_fit(hosts: &[Text], host: &[u8]) -> bool
@@ -71,14 +71,4 @@ fn ends(after: &[u8], host: &[u8]) -> bool
     ensures { result ≡ ends_with nat_eq (str_to_ascii_lowercase host.now) after.now }
 {
     is_lower_case_of(after, &host[host.len() - after.len()..])
-}
-
-fn is_lower_case_of(lower: &[u8], raw: &[u8]) -> bool
-    ensures { IsTrue result ↔ (lower.now ≡ str_to_ascii_lowercase raw.now) }
-{
-    lower.len() == raw.len()
-        && lower
-            .iter()
-            .zip(raw)
-            .all(|(a, b)| *a == b.to_ascii_lowercase())
 }
