@@ -1,5 +1,5 @@
 -- Nested lists of one name aren't touched where those of another are taken out.
-use Rattle.std.proofs.Common.{◌≡◌, ℕ, ◌+◌, length, Bool, true, false, cond, ◌||◌, List, [], ◌∷◌, ◌++◌, map, Option, Some, None, unwrap_or, Ordering, Less, Equal, Greater, is_eq, refl, sym, ap, ◌∙◌, codes, true≢false}
+use Rattle.std.proofs.Common.{◌≡◌, ℕ, ◌+◌, length, Bool, true, false, cond, ◌||◌, List, [], ◌∷◌, ◌++◌, append_assoc, map, Option, Some, None, unwrap_or, Ordering, Less, Equal, Greater, is_eq, refl, sym, ap, ◌∙◌, codes, true≢false}
 use Rattle.std.proofs.lemmas.List.{length-map}
 use Rattle.std.proofs.lemmas.Map.Text.{is_eq-slice_cmp}
 use Rattle.std.proofs.lemmas.Slice.Eq.{bytes_eq-Decides}
@@ -75,6 +75,10 @@ listed_after of_kind q (name ∷ names) ms apart =
     ∙ listed_after of_kind q names ms (rest_apart (bytes_eq q name) (list_any (bytes_eq q) names) apart)
 
 -- ---- all rows
+
+-- what is added behind a part is behind the whole
+pub added_behind : (rows old now part more : List Row) → old ≡ rows ++ part → now ≡ old ++ more → now ≡ rows ++ (part ++ more)
+added_behind rows old now part more before added = added ∙ ap (λ all. all ++ more) before ∙ append_assoc rows part more
 
 abbrev stripped_consumers : List Row → List Row
 stripped_consumers rows = map (stripped (codes "acls")) (map (stripped (codes "basicauth_credentials")) (map (stripped (codes "keyauth_credentials")) rows))

@@ -1,5 +1,5 @@
 -- Members of an object and lists of objects, beside the data that they stand for.
-use Rattle.std.proofs.Common.{◌≡◌, ℕ, Bool, true, false, ◌&&◌, cond, List, [], ◌∷◌, Option, Some, None, is_some, option_map, option_and_then, String, Global, string_bytes, refl, ap, ◌∙◌}
+use Rattle.std.proofs.Common.{◌≡◌, ℕ, Bool, true, false, ◌&&◌, cond, List, [], ◌∷◌, ◌++◌, Option, Some, None, is_some, option_map, option_and_then, String, Global, string_bytes, refl, sym, ap, ◌∙◌, append_assoc, true≢false}
 use Rattle.std.proofs.lemmas.Map.Text.{is_eq-slice_cmp}
 use Rattle.std.specs.BTreeMap.{is_at}
 use Rattle.std.specs.Cmp.Lexicographic.{slice_cmp}
@@ -12,6 +12,7 @@ use Rattle.serde_json.specs.View.{view, items_view, members_view}
 use Rattle.serde_json.specs.declared.value.Value.{Value}
 use Rattle.kg_declared_rows.specs.Violations.{each_object}
 use Rattle.kg_declared_rows.specs.Rows.{without}
+use Rattle.kg_declared_rows.specs.SeenRows.{AddsObject}
 
 abbrev pub Entry : Type 0
 Entry = String Global × Value
@@ -39,3 +40,17 @@ object_first (Some first) (Some more) b same = same
 pub all_objects : (values : List Value) → list_all (λ value. is_some (as_object (view value))) values ≡ is_some (each_object (items_view values))
 all_objects [] = refl
 all_objects (value ∷ values) = object_first (as_object (view value)) (each_object (items_view values)) _ (all_objects values)
+
+-- one object more
+pub one_more_object : (found : Option Members) (before after : List Members) (rest : Option (List Members)) → AddsObject found before after true
+    → option_map (λ more. after ++ more) rest
+    ≡ option_map (λ more. before ++ more) (option_and_then (λ members. option_map (λ more. members ∷ more) rest) found)
+one_more_object (Some object) before after (Some more) is = ap (λ rows. Some (rows ++ more)) is.1 ∙ ap Some (append_assoc before (object ∷ []) more)
+one_more_object (Some object) before after None is = refl
+one_more_object None before after rest is = absurd (true≢false is)
+
+-- no list of objects
+pub no_object : (found : Option Members) (before after : List Members) (rest : Option (List Members)) → AddsObject found before after false
+    → option_and_then (λ members. option_map (λ more. members ∷ more) rest) found ≡ None
+no_object (Some object) before after rest is = absurd (true≢false (sym is.0))
+no_object None before after rest is = refl

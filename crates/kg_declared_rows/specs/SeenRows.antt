@@ -1,5 +1,5 @@
 -- Machinery for proofs: the rows of a declaration as the code keeps them.
-use Rattle.std.specs.Prelude.{◌≡◌, ℕ, ◌+◌, List, ◌++◌, length, map, codes}
+use Rattle.std.specs.Prelude.{◌≡◌, ℕ, ◌+◌, Bool, true, false, List, [], ◌∷◌, ◌++◌, length, map, Option, Some, None, codes}
 use Rattle.serde_json.specs.Data.{Members}
 use Rattle.serde_json.specs.View.{members_view}
 use Rattle.kg_row_types.specs.declared.entity.Kind.TheVariants as kind
@@ -17,6 +17,11 @@ seen row = record {
 
 abbrev pub seen_all : List Declared → List Row
 seen_all rows = map seen rows
+
+-- the members of an object stand behind the others, and another value adds none: which of both, it tells
+abbrev pub AddsObject : Option Members → List Members → List Members → Bool → Type 0
+AddsObject (Some members) before after told = (told ≡ true) × (after ≡ before ++ members ∷ [])
+AddsObject None before after told = told ≡ false
 
 -- the number of the first consumer
 abbrev pub consumers_begin : Lists → ℕ

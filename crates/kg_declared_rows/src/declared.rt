@@ -1,7 +1,7 @@
 //! The rows of a declaration in the order in which they are inserted, each without the lists that are
 //! nested in it.
 
-ghost use Rattle.std.specs.Prelude.{◌≡◌, [], ◌++◌, ◌+◌, IfOk, OnOk, map};
+ghost use Rattle.std.specs.Prelude.{◌≡◌, [], ◌∷◌, ◌++◌, ◌+◌, IfOk, OnOk, map};
 ghost use Rattle.serde_json.specs.View.{members_view};
 ghost use Rattle.kg_declared_rows.specs.Rows.{listed, nested, nested_in, row_of, rows_of, stripped, without};
 ghost use Rattle.kg_declared_rows.specs.SeenRows.{AreListed, HaveNested, HaveNestedPlugins, joined, seen, seen_all};
@@ -217,13 +217,20 @@ fn add_nested_plugins(alloc: Global, lists: &mut Lists) -> Result<(), NoMemory>
 fn join(lists: &mut Lists, rows: &mut Vec<Declared>) -> Result<(), NoMemory>
     ensures { OnOk result (seen_all rows.new.items ≡ seen_all rows.old.items ++ joined lists.old) }
 {
-    rows.append(&mut lists.services)?;
-    rows.append(&mut lists.routes)?;
-    rows.append(&mut lists.consumers)?;
-    rows.append(&mut lists.keys)?;
-    rows.append(&mut lists.logins)?;
-    rows.append(&mut lists.acls)?;
-    rows.append(&mut lists.plugins)?;
+    append(&mut lists.services, rows)?;
+    append(&mut lists.routes, rows)?;
+    append(&mut lists.consumers, rows)?;
+    append(&mut lists.keys, rows)?;
+    append(&mut lists.logins, rows)?;
+    append(&mut lists.acls, rows)?;
+    append(&mut lists.plugins, rows)?;
+    Ok(())
+}
+
+fn append(more: &mut Vec<Declared>, rows: &mut Vec<Declared>) -> Result<(), NoMemory>
+    ensures { OnOk result (seen_all rows.new.items ≡ seen_all rows.old.items ++ seen_all more.old.items) }
+{
+    rows.append(more)?;
     Ok(())
 }
 
@@ -288,15 +295,40 @@ fn take_each(
 {
     let mut number = first;
     for row in before {
-        let mut left = row;
-        take_from(alloc, number, kind, name, &mut left, found)?;
-        rows.push(left)?;
+        take_one(alloc, number, kind, name, row, rows, found)?;
         number = sum(number, 1)?;
     }
     Ok(())
 }
 
-// The same for the row with this number.
+// The same for the row with this number, which is added to the others.
+fn take_one(
+    alloc: Global,
+    number: usize,
+    kind: Kind,
+    name: &'static str,
+    row: Declared,
+    rows: &mut Vec<Declared>,
+    found: &mut Vec<Declared>,
+) -> Result<(), NoMemory>
+    ensures left { OnOk result (seen_all rows.new.items ≡ seen_all rows.old.items ++ stripped name.now (seen row) ∷ []) }
+    ensures found { OnOk result (seen_all found.new.items ≡ seen_all found.old.items ++ nested_in kind name.now number (seen row)) }
+{
+    let mut left = row;
+    match take_from(alloc, number, kind, name, &mut left, found) {
+        Ok(()) => {
+            rows.push(left)?;
+            Ok(())
+        }
+        Err(e) => {
+            // let go by name: a short proof
+            drop(left);
+            Err(e)
+        }
+    }
+}
+
+// The same for one row, in its place.
 fn take_from(
     alloc: Global,
     number: usize,

@@ -8,6 +8,7 @@ ghost use Rattle.kg_field_tables.specs.BrokenRules.{told};
 ghost use Rattle.kg_field_rules.specs.Rules.{in_order, tell};
 ghost use Rattle.kg_declared_rows.specs.Violations.{each_object, has_version, list_rule, member_violations, member_rule, own_violations, rows_at, rows_in, version_violations, version_rule};
 ghost use Rattle.kg_declared_rows.specs.Rows.{without};
+ghost use Rattle.kg_declared_rows.specs.SeenRows.{AddsObject};
 
 use kg_field_rules::rule::Rule;
 use kg_field_rules::violations::Violations;
@@ -39,8 +40,20 @@ fn tell_version(
     if has_version(declaration) {
         Ok(())
     } else {
-        violations.tell(Text::from_str(alloc, "_format_version")?, Rule::Required)
+        tell_rule(alloc, "_format_version", Rule::Required, violations)
     }
+}
+
+// Tells that this member breaks the rule.
+fn tell_rule(
+    alloc: Global,
+    name: &str,
+    rule: Rule,
+    violations: &mut Violations,
+) -> Result<(), NoMemory>
+    ensures { OnOk result (violations.new ≡ tell violations.old (name.now, rule)) }
+{
+    violations.tell(Text::from_str(alloc, name)?, rule)
 }
 
 fn tell_members(
@@ -65,7 +78,7 @@ fn tell_member(
     ensures { OnOk result (violations.new ≡ fold tell violations.old (told name.now (member_rule name.now (view value.now)))) }
 {
     match member_rule(name, value) {
-        Some(rule) => violations.tell(Text::from_str(alloc, name)?, rule),
+        Some(rule) => tell_rule(alloc, name, rule, violations),
         None => Ok(()),
     }
 }
@@ -183,10 +196,26 @@ fn each_object(
 {
     let mut rows = Vec::new(alloc);
     for item in items {
-        let Value::Object(row) = item else {
+        if !add_object(item, &mut rows)? {
             return Ok(None);
-        };
-        rows.push(row)?;
+        }
     }
     Ok(Some(rows))
+}
+
+// Adds the value, if it is an object, and tells whether it is one.
+fn add_object(item: Value, rows: &mut Vec<Map<String, Value>>) -> Result<bool, NoMemory>
+    ensures { IfOk result (AddsObject (as_object (view item)) (map (λ row. members_view row.entries) rows.old.items) (map (λ row. members_view row.entries) rows.new.items)) }
+{
+    match item {
+        Value::Object(row) => {
+            rows.push(row)?;
+            Ok(true)
+        }
+        other => {
+            // let go by name: a short proof
+            drop(other);
+            Ok(false)
+        }
+    }
 }
