@@ -1,14 +1,16 @@
 -- What a body is finished over: a row that isn't there yet, or an old row (Kong Admin API: POST makes a
 -- row, PUT makes or replaces one, PATCH changes one).
-use Rattle.std.specs.Prelude.{ℕ, ◌/◌, List, Option, Some, None, unwrap_or}
+use Rattle.std.specs.Prelude.{ℕ, ◌/◌, List, Option, Some, None, unwrap_or, option_map}
 use Rattle.serde_json.specs.Data.{Data}
 use Rattle.kg_row_types.specs.Entities.{id_of_row}
+use Rattle.kg_row_types.specs.PluginNames.{plugin_of}
 use Rattle.kg_row_types.specs.declared.consumer.AclRow.{AclRow}
 use Rattle.kg_row_types.specs.declared.consumer.BasicCred.{BasicCred}
 use Rattle.kg_row_types.specs.declared.consumer.Consumer.{Consumer}
 use Rattle.kg_row_types.specs.declared.consumer.KeyCred.{KeyCred}
 use Rattle.kg_row_types.specs.declared.entity.Entity.{Entity}
 use Rattle.kg_row_types.specs.declared.entity.Entity.TheVariants as row
+use Rattle.kg_row_types.specs.declared.plugin.PluginName.{PluginName}
 use Rattle.kg_row_types.specs.declared.plugin.PluginRow.{PluginRow}
 use Rattle.kg_row_types.specs.declared.route.Route.{Route}
 use Rattle.kg_row_types.specs.declared.service.Service.{Service}
@@ -74,6 +76,20 @@ old_as as_kind (New id now) = None
 old_as as_kind (Again id created_at now) = None
 old_as as_kind (Word id word now) = None
 old_as as_kind (Old old now) = as_kind old
+
+-- the consumer of the old credential or membership
+abbrev pub key_owner : BaseValue → Option ℕ
+key_owner base = option_map (λ old. old.consumer) (old_as key_of base)
+
+abbrev pub basic_owner : BaseValue → Option ℕ
+basic_owner base = option_map (λ old. old.consumer) (old_as basic_of base)
+
+abbrev pub acl_owner : BaseValue → Option ℕ
+acl_owner base = option_map (λ old. old.consumer) (old_as acl_of base)
+
+-- the plugin of the old row
+abbrev pub old_plugin : BaseValue → Option PluginName
+old_plugin base = option_map (λ old. plugin_of old.config) (old_as plugin_row_of base)
 
 -- ---- ids and times
 

@@ -20,9 +20,11 @@ use Rattle.kg_row_types.specs.declared.config.SizeUnit.TheVariants as unit
 use Rattle.kg_row_types.specs.declared.config.Termination.{Termination}
 use Rattle.kg_row_types.specs.declared.plugin.PluginName.{PluginName}
 use Rattle.kg_row_types.specs.declared.plugin.PluginName.TheVariants as plugin
-use Rattle.kg_bodies.specs.Settings.{text_at, texts_at, whole_at, flag_at, size_unit_at, limit_by_at, inside}
-use Rattle.kg_field_rules.specs.declared.text_kind.TextKind.{TextKind}
-use Rattle.kg_field_rules.specs.declared.text_kind.TextKind.TheVariants as text_kind
+use Rattle.kg_bodies.specs.Settings.{flag_at, size_unit_at, limit_by_at, inside}
+use Rattle.kg_bodies.specs.TableSettings.{text_in, texts_in, whole_in}
+use Rattle.kg_field_tables.specs.declared.table.EditList.TheVariants as edits
+use Rattle.kg_field_tables.specs.declared.table.Table.{Table}
+use Rattle.kg_field_tables.specs.declared.table.Table.TheVariants.{Config as ConfigOf, RequestEdits, ResponseEdits}
 
 -- a list that is set, else the other
 abbrev pub list_over : {A : Type 0} → List A → List A → List A
@@ -104,54 +106,60 @@ default_config plugin.RequestTermination = config_of.RequestTermination default_
 
 -- ---- what the body sets
 
-abbrev pub cors_over : Data → Cors → Cors
-cors_over config before = record {
-  origins = list_over (texts_at text_kind.FreeText (codes "origins") config) before.origins;
-  methods = list_over (texts_at text_kind.Method (codes "methods") config) before.methods;
-  headers = list_over (texts_at text_kind.FreeText (codes "headers") config) before.headers;
-  exposed_headers = list_over (texts_at text_kind.FreeText (codes "exposed_headers") config) before.exposed_headers;
-  credentials = unwrap_or (flag_at (codes "credentials") config) before.credentials;
-  max_age = option_or (whole_at 0 1000000000 (codes "max_age") config) before.max_age;
-  preflight_continue = unwrap_or (flag_at (codes "preflight_continue") config) before.preflight_continue;
+abbrev pub cors_lists_over : Data → Cors → Cors
+cors_lists_over config before = record before {
+  origins = list_over (texts_in (ConfigOf plugin.Cors) (codes "origins") config) before.origins;
+  methods = list_over (texts_in (ConfigOf plugin.Cors) (codes "methods") config) before.methods;
+  headers = list_over (texts_in (ConfigOf plugin.Cors) (codes "headers") config) before.headers;
+  exposed_headers = list_over (texts_in (ConfigOf plugin.Cors) (codes "exposed_headers") config) before.exposed_headers;
 }
+
+abbrev pub cors_over : Data → Cors → Cors
+cors_over config before =
+    let lists = cors_lists_over config before in
+    record lists {
+      credentials = unwrap_or (flag_at (codes "credentials") config) before.credentials;
+      max_age = option_or (whole_in (ConfigOf plugin.Cors) (codes "max_age") config) before.max_age;
+      preflight_continue = unwrap_or (flag_at (codes "preflight_continue") config) before.preflight_continue;
+    }
 
 abbrev pub key_auth_over : Data → KeyAuth → KeyAuth
 key_auth_over config before = record {
-  key_names = list_over (texts_at text_kind.Token (codes "key_names") config) before.key_names;
+  key_names = list_over (texts_in (ConfigOf plugin.KeyAuth) (codes "key_names") config) before.key_names;
   key_in_header = unwrap_or (flag_at (codes "key_in_header") config) before.key_in_header;
   key_in_query = unwrap_or (flag_at (codes "key_in_query") config) before.key_in_query;
   hide_credentials = unwrap_or (flag_at (codes "hide_credentials") config) before.hide_credentials;
-  anonymous = option_or (text_at text_kind.Anonymous (codes "anonymous") config) before.anonymous;
+  anonymous = option_or (text_in (ConfigOf plugin.KeyAuth) (codes "anonymous") config) before.anonymous;
 }
 
 abbrev pub basic_auth_over : Data → BasicAuth → BasicAuth
 basic_auth_over config before = record {
   hide_credentials = unwrap_or (flag_at (codes "hide_credentials") config) before.hide_credentials;
-  anonymous = option_or (text_at text_kind.Anonymous (codes "anonymous") config) before.anonymous;
+  anonymous = option_or (text_in (ConfigOf plugin.BasicAuth) (codes "anonymous") config) before.anonymous;
 }
 
 abbrev pub ip_restriction_over : Data → IpRestriction → IpRestriction
 ip_restriction_over config before = record {
-  allow = list_over (texts_at text_kind.AddressBlock (codes "allow") config) before.allow;
-  deny = list_over (texts_at text_kind.AddressBlock (codes "deny") config) before.deny;
+  allow = list_over (texts_in (ConfigOf plugin.IpRestriction) (codes "allow") config) before.allow;
+  deny = list_over (texts_in (ConfigOf plugin.IpRestriction) (codes "deny") config) before.deny;
 }
 
 abbrev pub size_limit_over : Data → SizeLimit → SizeLimit
 size_limit_over config before = record {
-  allowed_payload_size = unwrap_or (whole_at 1 1000000000 (codes "allowed_payload_size") config) before.allowed_payload_size;
+  allowed_payload_size = unwrap_or (whole_in (ConfigOf plugin.RequestSizeLimiting) (codes "allowed_payload_size") config) before.allowed_payload_size;
   size_unit = unwrap_or (size_unit_at config) before.size_unit;
 }
 
 abbrev pub groups_over : Data → Acl → Acl
 groups_over config before = record {
-  allow = list_over (texts_at text_kind.FreeText (codes "allow") config) before.allow;
-  deny = list_over (texts_at text_kind.FreeText (codes "deny") config) before.deny;
+  allow = list_over (texts_in (ConfigOf plugin.Acl) (codes "allow") config) before.allow;
+  deny = list_over (texts_in (ConfigOf plugin.Acl) (codes "deny") config) before.deny;
   hide_groups_header = unwrap_or (flag_at (codes "hide_groups_header") config) before.hide_groups_header;
 }
 
 -- how many requests a window of time may have
 abbrev pub limit_at : List ℕ → Data → Option ℕ
-limit_at name config = whole_at 1 1000000000 name config
+limit_at name config = whole_in (ConfigOf plugin.RateLimiting) name config
 
 abbrev pub rate_limiting_over : Data → RateLimiting → RateLimiting
 rate_limiting_over config before = record {
@@ -163,43 +171,52 @@ rate_limiting_over config before = record {
   hide_client_headers = unwrap_or (flag_at (codes "hide_client_headers") config) before.hide_client_headers;
 }
 
+-- neither list is set
+abbrev pub are_none : Edits → Bool
+are_none edits = length edits.headers == 0 && length edits.querystring == 0
+
+-- a step that is set, else the other
+abbrev pub set_edits_over : Edits → Edits → Edits
+set_edits_over set before = if are_none set then before else set
+
 -- the lists of one step of a request's change; where neither is set, the step isn't
-abbrev pub edits_over : TextKind → Data → Edits → Edits
-edits_over in_headers step before =
-    let headers = texts_at in_headers (codes "headers") step in
-    let querystring = texts_at text_kind.Edit (codes "querystring") step in
-    if length headers == 0 && length querystring == 0 then before
-    else record { headers = headers; querystring = querystring }
+abbrev pub edits_over : Table → Data → Edits → Edits
+edits_over table step before =
+    set_edits_over (record { headers = texts_in table (codes "headers") step; querystring = texts_in table (codes "querystring") step }) before
 
 abbrev pub request_transformer_over : Data → RequestTransformer → RequestTransformer
 request_transformer_over config before = record {
-  remove = edits_over text_kind.HeaderEdit (inside (codes "remove") config) before.remove;
-  rename = edits_over text_kind.HeaderRename (inside (codes "rename") config) before.rename;
-  replace = edits_over text_kind.HeaderEdit (inside (codes "replace") config) before.replace;
-  add = edits_over text_kind.HeaderEdit (inside (codes "add") config) before.add;
-  append = edits_over text_kind.HeaderEdit (inside (codes "append") config) before.append;
+  remove = edits_over (RequestEdits edits.Remove) (inside (codes "remove") config) before.remove;
+  rename = edits_over (RequestEdits edits.Rename) (inside (codes "rename") config) before.rename;
+  replace = edits_over (RequestEdits edits.Replace) (inside (codes "replace") config) before.replace;
+  add = edits_over (RequestEdits edits.Add) (inside (codes "add") config) before.add;
+  append = edits_over (RequestEdits edits.Append) (inside (codes "append") config) before.append;
 }
 
 -- the list of one step of a reply's change
-abbrev pub header_edits_over : TextKind → Data → List (List ℕ) → List (List ℕ)
-header_edits_over kind step before = list_over (texts_at kind (codes "headers") step) before
+abbrev pub header_edits_over : Table → Data → List (List ℕ) → List (List ℕ)
+header_edits_over table step before = list_over (texts_in table (codes "headers") step) before
 
 abbrev pub response_transformer_over : Data → ResponseTransformer → ResponseTransformer
 response_transformer_over config before = record {
-  remove = header_edits_over text_kind.HeaderEdit (inside (codes "remove") config) before.remove;
-  rename = header_edits_over text_kind.HeaderRename (inside (codes "rename") config) before.rename;
-  replace = header_edits_over text_kind.HeaderEdit (inside (codes "replace") config) before.replace;
-  add = header_edits_over text_kind.HeaderEdit (inside (codes "add") config) before.add;
-  append = header_edits_over text_kind.HeaderEdit (inside (codes "append") config) before.append;
+  remove = header_edits_over (ResponseEdits edits.Remove) (inside (codes "remove") config) before.remove;
+  rename = header_edits_over (ResponseEdits edits.Rename) (inside (codes "rename") config) before.rename;
+  replace = header_edits_over (ResponseEdits edits.Replace) (inside (codes "replace") config) before.replace;
+  add = header_edits_over (ResponseEdits edits.Add) (inside (codes "add") config) before.add;
+  append = header_edits_over (ResponseEdits edits.Append) (inside (codes "append") config) before.append;
+}
+
+abbrev pub reply_over : Data → Termination → Termination
+reply_over config before = record before {
+  message = option_or (text_in (ConfigOf plugin.RequestTermination) (codes "message") config) before.message;
+  body = option_or (text_in (ConfigOf plugin.RequestTermination) (codes "body") config) before.body;
+  content_type = option_or (text_in (ConfigOf plugin.RequestTermination) (codes "content_type") config) before.content_type;
 }
 
 abbrev pub termination_over : Data → Termination → Termination
-termination_over config before = record {
-  status_code = unwrap_or (whole_at 200 599 (codes "status_code") config) before.status_code;
-  message = option_or (text_at text_kind.FreeText (codes "message") config) before.message;
-  body = option_or (text_at text_kind.LongText (codes "body") config) before.body;
-  content_type = option_or (text_at text_kind.FreeText (codes "content_type") config) before.content_type;
-}
+termination_over config before =
+    let status_code = unwrap_or (whole_in (ConfigOf plugin.RequestTermination) (codes "status_code") config) before.status_code in
+    reply_over config (record before { status_code = status_code })
 
 -- the config with what the body sets
 abbrev pub config_over : Data → Config → Config

@@ -3,14 +3,14 @@
 ghost use Rattle.std.specs.Prelude.{◌≡◌, ◌/◌, [], Some, IfOk, unwrap_or};
 ghost use Rattle.std.specs.Option.{option_copied};
 ghost use Rattle.serde_json.specs.View.{view};
-ghost use Rattle.kg_row_making.specs.Bases.{acl_of, base_of, basic_of, consumer_of, fixed_id, given_word, key_of, made_at, old_as, plugin_row_of, route_of, service_of, stamps_of};
+ghost use Rattle.kg_row_making.specs.Bases.{acl_of, acl_owner, base_of, basic_of, basic_owner, consumer_of, fixed_id, given_word, key_of, key_owner, made_at, old_as, old_plugin, plugin_row_of, route_of, service_of, stamps_of};
 ghost use Rattle.kg_bodies.specs.Settings.{id_at};
 
 use kg_bodies::settings::id_at;
 use kg_row_types::consumer::{AclRow, BasicCred, Consumer, KeyCred};
 use kg_row_types::entity::Entity;
 use kg_row_types::id::Id;
-use kg_row_types::plugin::PluginRow;
+use kg_row_types::plugin::{PluginName, PluginRow};
 use kg_row_types::route::Route;
 use kg_row_types::service::Service;
 use kg_text::{NoMemory, Text, TryClone};
@@ -197,6 +197,46 @@ impl Base<'_> {
         match self.old() {
             Some(Entity::Plugin(old)) => Some(old),
             _ => None,
+        }
+    }
+
+    /// The consumer of the old credential with a key.
+    pub fn key_owner(&self) -> Option<Id>
+        ensures { result ≡ key_owner (base_of self.now) }
+    {
+        match self.key() {
+            Some(old) => Some(old.consumer),
+            None => None,
+        }
+    }
+
+    /// The consumer of the old credential with a password.
+    pub fn basic_owner(&self) -> Option<Id>
+        ensures { result ≡ basic_owner (base_of self.now) }
+    {
+        match self.basic() {
+            Some(old) => Some(old.consumer),
+            None => None,
+        }
+    }
+
+    /// The consumer of the old membership.
+    pub fn acl_owner(&self) -> Option<Id>
+        ensures { result ≡ acl_owner (base_of self.now) }
+    {
+        match self.acl() {
+            Some(old) => Some(old.consumer),
+            None => None,
+        }
+    }
+
+    /// The plugin of the old row.
+    pub fn old_plugin(&self) -> Option<PluginName>
+        ensures { result ≡ old_plugin (base_of self.now) }
+    {
+        match self.plugin() {
+            Some(old) => Some(old.config.name()),
+            None => None,
         }
     }
 }

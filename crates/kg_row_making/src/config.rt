@@ -2,21 +2,23 @@
 
 ghost use Rattle.std.specs.Prelude.{◌≡◌, OnOk};
 ghost use Rattle.serde_json.specs.View.{view};
-ghost use Rattle.kg_row_making.specs.FinishedConfigs.{basic_auth_over, config_over, cors_over, edits_over, groups_over, header_edits_over, ip_restriction_over, key_auth_over, rate_limiting_over, request_transformer_over, response_transformer_over, size_limit_over, termination_over};
+ghost use Rattle.kg_bodies.specs.Settings.{inside};
+ghost use Rattle.kg_field_tables.specs.declared.table.Table.TheVariants.{RequestEdits, ResponseEdits};
+ghost use Rattle.kg_row_making.specs.FinishedConfigs.{are_none, basic_auth_over, config_over, cors_lists_over, cors_over, edits_over, groups_over, header_edits_over, ip_restriction_over, key_auth_over, rate_limiting_over, reply_over, request_transformer_over, response_transformer_over, set_edits_over, size_limit_over, termination_over};
 
 use crate::member::member_or;
 use crate::set::{narrow, set, set_list, set_option};
-use kg_bodies::settings::{flag_at, limit_by_at, size_unit_at, text_at, texts_at, whole_at};
-use kg_field_rules::text_kind::TextKind;
+use kg_bodies::by_table::{text_in, texts_in, whole_in};
+use kg_bodies::settings::{flag_at, limit_by_at, size_unit_at};
+use kg_field_tables::table::{EditList, Table};
 use kg_row_types::config::{
     Acl, BasicAuth, Config, Cors, Edits, IpRestriction, KeyAuth, RateLimiting, RequestTransformer,
     ResponseTransformer, SizeLimit, Termination,
 };
+use kg_row_types::plugin::PluginName;
 use kg_text::{List, NoMemory, Text};
 use serde_json::Value;
 use std::alloc::Global;
-
-const MOST: u64 = 1000000000;
 
 /// Sets in a config what the body sets.
 pub fn set_config(alloc: Global, config: &Value, place: &mut Config) -> Result<(), NoMemory>
@@ -39,26 +41,11 @@ pub fn set_config(alloc: Global, config: &Value, place: &mut Config) -> Result<(
 fn set_cors(alloc: Global, config: &Value, place: &mut Cors) -> Result<(), NoMemory>
     ensures { OnOk result (place.new ≡ cors_over (view config.now) place.old) }
 {
-    set_list(
-        &mut place.origins,
-        texts_at(alloc, TextKind::FreeText, "origins", config)?,
-    );
-    set_list(
-        &mut place.methods,
-        texts_at(alloc, TextKind::Method, "methods", config)?,
-    );
-    set_list(
-        &mut place.headers,
-        texts_at(alloc, TextKind::FreeText, "headers", config)?,
-    );
-    set_list(
-        &mut place.exposed_headers,
-        texts_at(alloc, TextKind::FreeText, "exposed_headers", config)?,
-    );
+    set_cors_lists(alloc, config, place)?;
     set(&mut place.credentials, flag_at("credentials", config));
     set_option(
         &mut place.max_age,
-        whole_at(alloc, 0, MOST, "max_age", config)?,
+        whole_in(alloc, Table::Config(PluginName::Cors), "max_age", config)?,
     );
     set(
         &mut place.preflight_continue,
@@ -67,12 +54,36 @@ fn set_cors(alloc: Global, config: &Value, place: &mut Cors) -> Result<(), NoMem
     Ok(())
 }
 
+fn set_cors_lists(alloc: Global, config: &Value, place: &mut Cors) -> Result<(), NoMemory>
+    ensures { OnOk result (place.new ≡ cors_lists_over (view config.now) place.old) }
+{
+    let table = Table::Config(PluginName::Cors);
+    set_list(
+        &mut place.origins,
+        texts_in(alloc, table, "origins", config)?,
+    );
+    set_list(
+        &mut place.methods,
+        texts_in(alloc, table, "methods", config)?,
+    );
+    set_list(
+        &mut place.headers,
+        texts_in(alloc, table, "headers", config)?,
+    );
+    set_list(
+        &mut place.exposed_headers,
+        texts_in(alloc, table, "exposed_headers", config)?,
+    );
+    Ok(())
+}
+
 fn set_key_auth(alloc: Global, config: &Value, place: &mut KeyAuth) -> Result<(), NoMemory>
     ensures { OnOk result (place.new ≡ key_auth_over (view config.now) place.old) }
 {
+    let table = Table::Config(PluginName::KeyAuth);
     set_list(
         &mut place.key_names,
-        texts_at(alloc, TextKind::Token, "key_names", config)?,
+        texts_in(alloc, table, "key_names", config)?,
     );
     set(&mut place.key_in_header, flag_at("key_in_header", config));
     set(&mut place.key_in_query, flag_at("key_in_query", config));
@@ -82,7 +93,7 @@ fn set_key_auth(alloc: Global, config: &Value, place: &mut KeyAuth) -> Result<()
     );
     set_option(
         &mut place.anonymous,
-        text_at(alloc, TextKind::Anonymous, "anonymous", config)?,
+        text_in(alloc, table, "anonymous", config)?,
     );
     Ok(())
 }
@@ -90,13 +101,14 @@ fn set_key_auth(alloc: Global, config: &Value, place: &mut KeyAuth) -> Result<()
 fn set_basic_auth(alloc: Global, config: &Value, place: &mut BasicAuth) -> Result<(), NoMemory>
     ensures { OnOk result (place.new ≡ basic_auth_over (view config.now) place.old) }
 {
+    let table = Table::Config(PluginName::BasicAuth);
     set(
         &mut place.hide_credentials,
         flag_at("hide_credentials", config),
     );
     set_option(
         &mut place.anonymous,
-        text_at(alloc, TextKind::Anonymous, "anonymous", config)?,
+        text_in(alloc, table, "anonymous", config)?,
     );
     Ok(())
 }
@@ -108,23 +120,19 @@ fn set_ip_restriction(
 ) -> Result<(), NoMemory>
     ensures { OnOk result (place.new ≡ ip_restriction_over (view config.now) place.old) }
 {
-    set_list(
-        &mut place.allow,
-        texts_at(alloc, TextKind::AddressBlock, "allow", config)?,
-    );
-    set_list(
-        &mut place.deny,
-        texts_at(alloc, TextKind::AddressBlock, "deny", config)?,
-    );
+    let table = Table::Config(PluginName::IpRestriction);
+    set_list(&mut place.allow, texts_in(alloc, table, "allow", config)?);
+    set_list(&mut place.deny, texts_in(alloc, table, "deny", config)?);
     Ok(())
 }
 
 fn set_size_limit(alloc: Global, config: &Value, place: &mut SizeLimit) -> Result<(), NoMemory>
     ensures { OnOk result (place.new ≡ size_limit_over (view config.now) place.old) }
 {
+    let table = Table::Config(PluginName::RequestSizeLimiting);
     set(
         &mut place.allowed_payload_size,
-        whole_at(alloc, 1, MOST, "allowed_payload_size", config)?,
+        whole_in(alloc, table, "allowed_payload_size", config)?,
     );
     set(&mut place.size_unit, size_unit_at(config));
     Ok(())
@@ -133,14 +141,9 @@ fn set_size_limit(alloc: Global, config: &Value, place: &mut SizeLimit) -> Resul
 fn set_groups(alloc: Global, config: &Value, place: &mut Acl) -> Result<(), NoMemory>
     ensures { OnOk result (place.new ≡ groups_over (view config.now) place.old) }
 {
-    set_list(
-        &mut place.allow,
-        texts_at(alloc, TextKind::FreeText, "allow", config)?,
-    );
-    set_list(
-        &mut place.deny,
-        texts_at(alloc, TextKind::FreeText, "deny", config)?,
-    );
+    let table = Table::Config(PluginName::Acl);
+    set_list(&mut place.allow, texts_in(alloc, table, "allow", config)?);
+    set_list(&mut place.deny, texts_in(alloc, table, "deny", config)?);
     set(
         &mut place.hide_groups_header,
         flag_at("hide_groups_header", config),
@@ -155,16 +158,11 @@ fn set_rate_limiting(
 ) -> Result<(), NoMemory>
     ensures { OnOk result (place.new ≡ rate_limiting_over (view config.now) place.old) }
 {
-    set_option(
-        &mut place.second,
-        whole_at(alloc, 1, MOST, "second", config)?,
-    );
-    set_option(
-        &mut place.minute,
-        whole_at(alloc, 1, MOST, "minute", config)?,
-    );
-    set_option(&mut place.hour, whole_at(alloc, 1, MOST, "hour", config)?);
-    set_option(&mut place.day, whole_at(alloc, 1, MOST, "day", config)?);
+    let table = Table::Config(PluginName::RateLimiting);
+    set_option(&mut place.second, whole_in(alloc, table, "second", config)?);
+    set_option(&mut place.minute, whole_in(alloc, table, "minute", config)?);
+    set_option(&mut place.hour, whole_in(alloc, table, "hour", config)?);
+    set_option(&mut place.day, whole_in(alloc, table, "day", config)?);
     set(&mut place.limit_by, limit_by_at(config));
     set(
         &mut place.hide_client_headers,
@@ -174,22 +172,48 @@ fn set_rate_limiting(
 }
 
 // Sets the lists of one step of a request's change. Where neither is set, the step isn't.
-fn set_edits(
+fn set_edits(alloc: Global, table: Table, step: &Value, place: &mut Edits) -> Result<(), NoMemory>
+    ensures { OnOk result (place.new ≡ edits_over table (view step.now) place.old) }
+{
+    let headers = texts_in(alloc, table, "headers", step)?;
+    let querystring = texts_in(alloc, table, "querystring", step)?;
+    set_if_any(
+        place,
+        Edits {
+            headers,
+            querystring,
+        },
+    );
+    Ok(())
+}
+
+fn set_if_any(place: &mut Edits, edits: Edits)
+    ensures { place.new ≡ set_edits_over edits place.old }
+{
+    if !are_none(&edits) {
+        *place = edits;
+    }
+}
+
+fn are_none(edits: &Edits) -> bool
+    ensures { result ≡ are_none edits.now }
+{
+    edits.headers.as_slice().is_empty() && edits.querystring.as_slice().is_empty()
+}
+
+// Sets one step of a request's change.
+fn set_step(
     alloc: Global,
-    in_headers: TextKind,
-    step: &Value,
+    edits: EditList,
+    name: &str,
+    config: &Value,
     place: &mut Edits,
 ) -> Result<(), NoMemory>
-    ensures { OnOk result (place.new ≡ edits_over in_headers (view step.now) place.old) }
+    ensures { OnOk result (place.new ≡ edits_over (RequestEdits edits) (inside name.now (view config.now)) place.old) }
 {
-    let headers = texts_at(alloc, in_headers, "headers", step)?;
-    let querystring = texts_at(alloc, TextKind::Edit, "querystring", step)?;
-    if headers.as_slice().is_empty() && querystring.as_slice().is_empty() {
-        return Ok(());
-    }
-    place.headers = headers;
-    place.querystring = querystring;
-    Ok(())
+    let null = Value::Null;
+    let step = member_or(name, config, &null);
+    set_edits(alloc, Table::RequestEdits(edits), step, place)
 }
 
 fn set_request_transformer(
@@ -199,50 +223,36 @@ fn set_request_transformer(
 ) -> Result<(), NoMemory>
     ensures { OnOk result (place.new ≡ request_transformer_over (view config.now) place.old) }
 {
-    let null = Value::Null;
-    set_edits(
+    set_step(alloc, EditList::Remove, "remove", config, &mut place.remove)?;
+    set_step(alloc, EditList::Rename, "rename", config, &mut place.rename)?;
+    set_step(
         alloc,
-        TextKind::HeaderEdit,
-        member_or("remove", config, &null),
-        &mut place.remove,
-    )?;
-    set_edits(
-        alloc,
-        TextKind::HeaderRename,
-        member_or("rename", config, &null),
-        &mut place.rename,
-    )?;
-    set_edits(
-        alloc,
-        TextKind::HeaderEdit,
-        member_or("replace", config, &null),
+        EditList::Replace,
+        "replace",
+        config,
         &mut place.replace,
     )?;
-    set_edits(
-        alloc,
-        TextKind::HeaderEdit,
-        member_or("add", config, &null),
-        &mut place.add,
-    )?;
-    set_edits(
-        alloc,
-        TextKind::HeaderEdit,
-        member_or("append", config, &null),
-        &mut place.append,
-    )?;
+    set_step(alloc, EditList::Add, "add", config, &mut place.add)?;
+    set_step(alloc, EditList::Append, "append", config, &mut place.append)?;
     Ok(())
 }
 
 // Sets the list of one step of a reply's change.
 fn set_header_edits(
     alloc: Global,
-    kind: TextKind,
-    step: &Value,
+    edits: EditList,
+    name: &str,
+    config: &Value,
     place: &mut List<Text>,
 ) -> Result<(), NoMemory>
-    ensures { OnOk result (place.new ≡ header_edits_over kind (view step.now) place.old) }
+    ensures { OnOk result (place.new ≡ header_edits_over (ResponseEdits edits) (inside name.now (view config.now)) place.old) }
 {
-    set_list(place, texts_at(alloc, kind, "headers", step)?);
+    let null = Value::Null;
+    let step = member_or(name, config, &null);
+    set_list(
+        place,
+        texts_in(alloc, Table::ResponseEdits(edits), "headers", step)?,
+    );
     Ok(())
 }
 
@@ -253,58 +263,43 @@ fn set_response_transformer(
 ) -> Result<(), NoMemory>
     ensures { OnOk result (place.new ≡ response_transformer_over (view config.now) place.old) }
 {
-    let null = Value::Null;
+    set_header_edits(alloc, EditList::Remove, "remove", config, &mut place.remove)?;
+    set_header_edits(alloc, EditList::Rename, "rename", config, &mut place.rename)?;
     set_header_edits(
         alloc,
-        TextKind::HeaderEdit,
-        member_or("remove", config, &null),
-        &mut place.remove,
-    )?;
-    set_header_edits(
-        alloc,
-        TextKind::HeaderRename,
-        member_or("rename", config, &null),
-        &mut place.rename,
-    )?;
-    set_header_edits(
-        alloc,
-        TextKind::HeaderEdit,
-        member_or("replace", config, &null),
+        EditList::Replace,
+        "replace",
+        config,
         &mut place.replace,
     )?;
-    set_header_edits(
-        alloc,
-        TextKind::HeaderEdit,
-        member_or("add", config, &null),
-        &mut place.add,
-    )?;
-    set_header_edits(
-        alloc,
-        TextKind::HeaderEdit,
-        member_or("append", config, &null),
-        &mut place.append,
-    )?;
+    set_header_edits(alloc, EditList::Add, "add", config, &mut place.add)?;
+    set_header_edits(alloc, EditList::Append, "append", config, &mut place.append)?;
     Ok(())
 }
 
 fn set_termination(alloc: Global, config: &Value, place: &mut Termination) -> Result<(), NoMemory>
     ensures { OnOk result (place.new ≡ termination_over (view config.now) place.old) }
 {
+    let table = Table::Config(PluginName::RequestTermination);
     set(
         &mut place.status_code,
-        narrow(whole_at(alloc, 200, 599, "status_code", config)?),
+        narrow(whole_in(alloc, table, "status_code", config)?),
     );
+    set_reply(alloc, config, place)
+}
+
+fn set_reply(alloc: Global, config: &Value, place: &mut Termination) -> Result<(), NoMemory>
+    ensures { OnOk result (place.new ≡ reply_over (view config.now) place.old) }
+{
+    let table = Table::Config(PluginName::RequestTermination);
     set_option(
         &mut place.message,
-        text_at(alloc, TextKind::FreeText, "message", config)?,
+        text_in(alloc, table, "message", config)?,
     );
-    set_option(
-        &mut place.body,
-        text_at(alloc, TextKind::LongText, "body", config)?,
-    );
+    set_option(&mut place.body, text_in(alloc, table, "body", config)?);
     set_option(
         &mut place.content_type,
-        text_at(alloc, TextKind::FreeText, "content_type", config)?,
+        text_in(alloc, table, "content_type", config)?,
     );
     Ok(())
 }

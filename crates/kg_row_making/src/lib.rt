@@ -2,6 +2,7 @@
 #![tactic(auto)]
 
 pub mod base;
+pub mod before;
 pub mod config;
 pub mod defaults;
 pub mod member;
