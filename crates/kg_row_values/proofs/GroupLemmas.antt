@@ -1,7 +1,8 @@
 -- The groups of a consumer, told by what each list has of the other.
-use Rattle.std.proofs.Common.{Contains, ◌↔◌, ◌≡◌, ℕ, Bool, true, false, cond, not, ◌||◌, ◌&&◌, ◌==◌, List, [], ◌∷◌, map, filter, All, refl, sym, ap, ◌∙◌, is_eq, nat_cmp}
+use Rattle.std.proofs.Common.{Contains, ◌↔◌, ◌≡◌, ℕ, Bool, true, ◌||◌, ◌&&◌, ◌==◌, List, [], ◌∷◌, map, filter, All, refl, sym, ap, ◌∙◌, is_eq, nat_cmp}
 use Rattle.std.proofs.lemmas.Cmp.{eq_by_cmp_equiv, nat_list_cmp_total}
 use Rattle.std.proofs.lemmas.List.Elements.{All-nil, All-cons}
+use Rattle.std.proofs.lemmas.List.Folds.{list_all-map}
 use Rattle.std.proofs.lemmas.Map.Lookups.{exact_bytes}
 use Rattle.std.proofs.lemmas.Map.Text.{is_eq-slice_cmp}
 use Rattle.std.proofs.lemmas.Map.Views.{Contains-from_any, list_any-from_Contains, tells_apart}
@@ -10,7 +11,6 @@ use Rattle.std.specs.BTreeSet.{insert_key}
 use Rattle.std.specs.List.{fold, list_any, list_all}
 use Rattle.std.specs.Str.{bytes_eq}
 use Rattle.kg_row_types.specs.RowLists.{RowLists}
-use Rattle.kg_row_types.specs.ValidRows.{same_membership}
 use Rattle.kg_row_types.specs.declared.consumer.AclRow.{AclRow}
 use Rattle.kg_row_types.specs.declared.key.Key.{Key}
 use Rattle.kg_row_types.specs.declared.key.Key.TheVariants.{Cred, Basic, Consumer, Named, Acls}
@@ -18,11 +18,15 @@ use Rattle.kg_row_values.specs.ByteOrder.{IsInByteOrder, in_byte_order}
 use Rattle.kg_row_values.specs.Values.{groups_of, value_of}
 use Rattle.kg_row_values.specs.Watching.{IsOrderly, watched_at}
 use Rattle.kg_row_values.specs.declared.watch.Watched.{Watched}
-use Rattle.kg_row_values.proofs.SetLemmas.{both, fold_is_order, has_order, sorted_order, same_sorted, included, includes_itself}
+use Rattle.kg_tables.proofs.SetLemmas.{both, fold_is_order, has_order, sorted_order, same_sorted, included, includes_itself}
 
--- the groups of a consumer's rows
-abbrev pub groups_in : ℕ → List AclRow → List (List ℕ)
-groups_in consumer acls = map (λ row. row.group) (filter (λ row. row.consumer == consumer) acls)
+-- the rows of a consumer
+abbrev pub rows_of : ℕ → List AclRow → List AclRow
+rows_of consumer acls = filter (λ row. row.consumer == consumer) acls
+
+-- their groups
+abbrev groups_in : ℕ → List AclRow → List (List ℕ)
+groups_in consumer acls = map (λ row. row.group) (rows_of consumer acls)
 
 -- the text is one of them, by the order of bytes
 abbrev has : List ℕ → List (List ℕ) → Bool
@@ -36,22 +40,6 @@ same_has t (x ∷ xs) =
 all_same : {X : Type 0} (p q : X → Bool) → ((x : X) → p x ≡ q x) → (xs : List X) → list_all p xs ≡ list_all q xs
 all_same p q same [] = refl
 all_same p q same (x ∷ xs) = ap (λ b. b && list_all p xs) (same x) ∙ ap (λ b. q x && b) (all_same p q same xs)
-
-all_rows : (p : List ℕ → Bool) (consumer : ℕ) (acls : List AclRow)
-    → list_all (λ row. not (row.consumer == consumer) || p row.group) acls ≡ list_all p (groups_in consumer acls)
-all_rows p consumer [] = refl
-all_rows p consumer (a ∷ acls) =
-    (elim (a.consumer == consumer) as (λ b. ((not b || p a.group) && list_all (λ row. not (row.consumer == consumer) || p row.group) acls)
-    ≡ list_all p (map (λ row. row.group) (cond {A = List AclRow} b (a ∷ filter (λ row. row.consumer == consumer) acls) (filter (λ row. row.consumer == consumer) acls))))
-    [ true ↦ ap (λ b. p a.group && b) (all_rows p consumer acls) | false ↦ all_rows p consumer acls ])
-
-any_rows : (p : List ℕ → Bool) (consumer : ℕ) (acls : List AclRow)
-    → list_any (λ row. row.consumer == consumer && p row.group) acls ≡ list_any p (groups_in consumer acls)
-any_rows p consumer [] = refl
-any_rows p consumer (a ∷ acls) =
-    (elim (a.consumer == consumer) as (λ b. ((b && p a.group) || list_any (λ row. row.consumer == consumer && p row.group) acls)
-    ≡ list_any p (map (λ row. row.group) (cond {A = List AclRow} b (a ∷ filter (λ row. row.consumer == consumer) acls) (filter (λ row. row.consumer == consumer) acls))))
-    [ true ↦ ap (λ b. p a.group || b) (any_rows p consumer acls) | false ↦ any_rows p consumer acls ])
 
 -- texts that are put in one after another stand in byte order
 pub bytes_in_order : (texts : List (List ℕ)) → fold (insert_key (slice_cmp nat_cmp)) [] texts ≡ in_byte_order texts
@@ -67,22 +55,28 @@ contains_texts texts text =
       (λ there. Contains-from_any (tells_apart exact_bytes) text (in_byte_order texts) (same ∙ list_any-from_Contains (eq_by_cmp_equiv nat_list_cmp_total) text texts there)),
     )
 
+any_group : (p : List ℕ → Bool) (rows : List AclRow) → list_any (λ row. p row.group) rows ≡ list_any p (map (λ row. row.group) rows)
+any_group p [] = refl
+any_group p (row ∷ rows) = ap (λ b. p row.group || b) (any_group p rows)
+
 module _ (consumer : ℕ) (acls : List AclRow) (groups : List (List ℕ)) where
   -- each group of the consumer is among them
   abbrev pub among : Bool
-  among = list_all (λ row. not (row.consumer == consumer) || list_any (bytes_eq row.group) groups) acls
+  among = list_all (λ row. list_any (bytes_eq row.group) groups) (rows_of consumer acls)
 
   -- each of them is a group of the consumer
   abbrev pub each : Bool
-  each = list_all (λ group. list_any (λ row. row.consumer == consumer && bytes_eq group row.group) acls) groups
+  each = list_all (λ group. list_any (λ row. bytes_eq group row.group) (rows_of consumer acls)) groups
 
   among_is : among ≡ list_all (λ g. has g groups) (groups_in consumer acls)
-  among_is = all_rows (λ g. list_any (bytes_eq g) groups) consumer acls ∙ all_same (λ g. list_any (bytes_eq g) groups) (λ g. has g groups) (λ g. same_has g groups) (groups_in consumer acls)
+  among_is =
+      sym (list_all-map (λ g. list_any (bytes_eq g) groups) (λ row. row.group) (rows_of consumer acls))
+      ∙ all_same (λ g. list_any (bytes_eq g) groups) (λ g. has g groups) (λ g. same_has g groups) (groups_in consumer acls)
 
   each_is : each ≡ list_all (λ g. has g (groups_in consumer acls)) groups
   each_is =
-      all_same (λ group. list_any (λ row. row.consumer == consumer && bytes_eq group row.group) acls) (λ g. has g (groups_in consumer acls))
-      (λ g. any_rows (bytes_eq g) consumer acls ∙ same_has g (groups_in consumer acls)) groups
+      all_same (λ group. list_any (λ row. bytes_eq group row.group) (rows_of consumer acls)) (λ g. has g (groups_in consumer acls))
+      (λ g. any_group (bytes_eq g) (rows_of consumer acls) ∙ same_has g (groups_in consumer acls)) groups
 
   -- a text is in the set exactly where it is a group
   in_set : (t : List ℕ) → has t (groups_of consumer acls) ≡ has t (groups_in consumer acls)
@@ -109,50 +103,6 @@ module _ (consumer : ℕ) (acls : List AclRow) (groups : List (List ℕ)) where
 -- the groups of a consumer stand in byte order
 pub groups_ordered : (consumer : ℕ) (acls : List AclRow) → IsInByteOrder (groups_of consumer acls)
 groups_ordered consumer acls = sorted_order nat_list_cmp_total exact_bytes (groups_in consumer acls)
-
-any_same : {X : Type 0} (p q : X → Bool) → ((x : X) → p x ≡ q x) → (xs : List X) → list_any p xs ≡ list_any q xs
-any_same p q same [] = refl
-any_same p q same (x ∷ xs) = ap (λ b. b || list_any p xs) (same x) ∙ ap (λ b. q x || b) (any_same p q same xs)
-
-and_twice : (a b : Bool) → (a && (a && b)) ≡ (a && b)
-and_twice true b = refl
-and_twice false b = refl
-
--- a test finds one among the rows of a consumer exactly where one of them passes
-any_own : (consumer : ℕ) (test : AclRow → Bool) (own acls : List AclRow) → own ≡ filter (λ row. row.consumer == consumer) acls
-    → list_any test own ≡ list_any (λ row. row.consumer == consumer && test row) acls
-any_own consumer test own acls is = ap (list_any test) is ∙ by acls
-  where
-    by : (rows : List AclRow) → list_any test (filter (λ row. row.consumer == consumer) rows) ≡ list_any (λ row. row.consumer == consumer && test row) rows
-    by [] = refl
-    by (row ∷ rows) =
-        (elim (row.consumer == consumer) as (λ b. list_any test (cond {A = List AclRow} b (row ∷ filter (λ other. other.consumer == consumer) rows) (filter (λ other. other.consumer == consumer) rows)) ≡ ((b && test row) || list_any (λ other. other.consumer == consumer && test other) rows))
-        [ true ↦ ap (λ rest. test row || rest) (by rows) | false ↦ by rows ])
-
--- the rows of a consumer tell its groups
-pub groups_alike : (consumer : ℕ) (own acls : List AclRow) → own ≡ filter (λ row. row.consumer == consumer) acls → groups_of consumer own ≡ groups_of consumer acls
-groups_alike consumer own acls is =
-    same_sorted nat_list_cmp_total exact_bytes (groups_of consumer own) (groups_of consumer acls) (groups_ordered consumer own) (groups_ordered consumer acls)
-    (λ t. in_set consumer own [] t
-    ∙ sym (any_rows (λ x. is_eq (slice_cmp nat_cmp t x)) consumer own)
-    ∙ any_own consumer (λ row. row.consumer == consumer && is_eq (slice_cmp nat_cmp t row.group)) own acls is
-    ∙ any_same (λ row. row.consumer == consumer && (row.consumer == consumer && is_eq (slice_cmp nat_cmp t row.group))) (λ row. row.consumer == consumer && is_eq (slice_cmp nat_cmp t row.group))
-    (λ row. and_twice (row.consumer == consumer) (is_eq (slice_cmp nat_cmp t row.group))) acls
-    ∙ any_rows (λ x. is_eq (slice_cmp nat_cmp t x)) consumer acls
-    ∙ sym (in_set consumer acls [] t))
-
--- a membership that another row has stands among the rows of its consumer
-pub taken_alike : (test : AclRow → Bool) (membership : AclRow) (own acls : List AclRow) → own ≡ filter (λ row. row.consumer == membership.consumer) acls
-    → list_any (λ other. test other && same_membership other membership) own ≡ list_any (λ other. test other && same_membership other membership) acls
-taken_alike test membership own acls is =
-    any_own membership.consumer (λ other. test other && same_membership other membership) own acls is
-    ∙ any_same (λ other. other.consumer == membership.consumer && (test other && same_membership other membership)) (λ other. test other && same_membership other membership)
-    (λ other. by (other.consumer == membership.consumer) (test other) (bytes_eq other.group membership.group)) acls
-  where
-    by : (a b c : Bool) → (a && (b && (a && c))) ≡ (b && (a && c))
-    by true b c = refl
-    by false true c = refl
-    by false false c = refl
 
 -- the values of keys are orderly
 orderly : (rows : RowLists) (k : Key) → IsOrderly (value_of rows k)

@@ -1,7 +1,8 @@
 -- Searches of a list that was changed where they don't look.
-use Rattle.std.proofs.Common.{◌≡◌, Bool, true, false, cond, not, ◌&&◌, ◌||◌, List, [], ◌∷◌, ◌++◌, Option, None, Some, option_map, filter, find, refl, sym, ap, ◌∙◌, true≢false}
+use Rattle.std.proofs.Common.{◌≡◌, Bool, true, false, cond, not, ◌&&◌, ◌||◌, List, [], ◌∷◌, ◌++◌, Option, None, Some, filter, find, refl, sym, ap, ◌∙◌, true≢false}
 use Rattle.std.proofs.lemmas.List.Folds.{list_any-append}
 use Rattle.std.specs.List.{list_any, flat_map}
+use Rattle.std.specs.Option.{is_some}
 use Rattle.kg_row_types.specs.Tables.{replaced}
 
 pub or_left : (a b : Bool) → (a || b) ≡ false → a ≡ false
@@ -53,6 +54,16 @@ module _ {X : Type 0} (p : X → Bool) where
   pub find_by_filter : (xs ys : List X) → filter p xs ≡ filter p ys → find p xs ≡ find p ys
   find_by_filter xs ys same = find_filter xs ∙ ap (find p) same ∙ sym (find_filter ys)
 
+-- one is found exactly where one passes
+pub found_any : {X : Type 0} (p : X → Bool) (xs : List X) → is_some (find p xs) ≡ list_any p xs
+found_any p [] = refl
+found_any {X} p (x ∷ xs) = (elim (p x) as (λ b. is_some (cond {A = Option X} b (Some x) (find p xs)) ≡ (b || list_any p xs)) [ true ↦ refl | false ↦ found_any p xs ])
+
+-- where the same pass, the same is found
+same_found : {X : Type 0} (p q : X → Bool) → ((x : X) → p x ≡ q x) → (xs : List X) → find p xs ≡ find q xs
+same_found p q same [] = refl
+same_found {X} p q same (x ∷ xs) = ap (λ b. cond {A = Option X} b (Some x) (find p xs)) (same x) ∙ ap (λ rest. cond {A = Option X} (q x) (Some x) rest) (same_found p q same xs)
+
 -- the first that passes both is the first of those that pass the one
 pub find_below : {X : Type 0} (p q : X → Bool) (xs : List X) → find (λ x. p x && q x) xs ≡ find q (filter p xs)
 find_below p q [] = refl
@@ -61,6 +72,15 @@ find_below {X} p q (x ∷ xs) =
       | true ↦ ap (λ rest. cond {A = Option X} (q x) (Some x) rest) (find_below p q xs)
       | false ↦ find_below p q xs
     ])
+
+-- the first that passes two tests among those that pass a third is the first that passes them all
+pub find_both : {X : Type 0} (p q r : X → Bool) (xs : List X) → find (λ x. q x && r x) (filter p xs) ≡ find (λ x. q x && (p x && r x)) xs
+find_both p q r xs = sym (find_below p (λ x. q x && r x) xs) ∙ same_found (λ x. p x && (q x && r x)) (λ x. q x && (p x && r x)) (λ x. by (p x) (q x) (r x)) xs
+  where
+    by : (a b c : Bool) → (a && (b && c)) ≡ (b && (a && c))
+    by true b c = refl
+    by false true c = refl
+    by false false c = refl
 
 -- where no key of a list passes, no row passes whose keys are in it
 pub none_of_all : {X K : Type 0} (q : K → Bool) (f : X → List K) (p : X → Bool) → ((x : X) → list_any q (f x) ≡ false → p x ≡ false)
@@ -78,25 +98,17 @@ none_of_front q xs ys none = or_left (list_any q xs) (list_any q ys) (sym (list_
 pub none_of_back : {K : Type 0} (q : K → Bool) (xs ys : List K) → list_any q (xs ++ ys) ≡ false → list_any q ys ≡ false
 none_of_back q xs ys none = or_right (list_any q xs) (list_any q ys) (sym (list_any-append q xs ys) ∙ none)
 
--- ---- what an index tells
-
--- none passes, so none is found
-pub held_by_none : {X Y : Type 0} (f : X → Y) (p : X → Bool) (xs : List X) → list_any p xs ≡ false → None ≡ option_map f (find p xs)
-held_by_none f p [] none = refl
-held_by_none {X} {Y} f p (x ∷ xs) none =
-    (elim (p x) as (λ b. (b || list_any p xs) ≡ false → None ≡ option_map f (cond {A = Option X} b (Some x) (find p xs))) [
-      | true ↦ λ wrong. absurd (true≢false wrong)
-      | false ↦ λ rest. held_by_none f p xs rest
-    ]) none
+-- ---- rows below a row
 
 -- the tests may change places
 both_ways : {X : Type 0} (p q : X → Bool) (xs : List X) → find (λ x. p x && q x) xs ≡ find (λ x. q x && p x) xs
-both_ways p q [] = refl
-both_ways {X} p q (x ∷ xs) =
-    (elim (p x) as (λ a. cond {A = Option X} (a && q x) (Some x) (find (λ y. p y && q y) xs) ≡ cond {A = Option X} (q x && a) (Some x) (find (λ y. q y && p y) xs)) [
-      | true ↦ (elim (q x) as (λ b. cond {A = Option X} b (Some x) (find (λ y. p y && q y) xs) ≡ cond {A = Option X} (b && true) (Some x) (find (λ y. q y && p y) xs)) [ true ↦ refl | false ↦ both_ways p q xs ])
-      | false ↦ (elim (q x) as (λ b. find (λ y. p y && q y) xs ≡ cond {A = Option X} (b && false) (Some x) (find (λ y. q y && p y) xs)) [ true ↦ both_ways p q xs | false ↦ both_ways p q xs ])
-    ])
+both_ways p q xs = same_found (λ x. p x && q x) (λ x. q x && p x) (λ x. by (p x) (q x)) xs
+  where
+    by : (a b : Bool) → (a && b) ≡ (b && a)
+    by true true = refl
+    by true false = refl
+    by false true = refl
+    by false false = refl
 
 -- the rows that pass the second test are given
 pub found_among : {X : Type 0} (p q : X → Bool) (xs own : List X) → own ≡ filter q xs → find p own ≡ find q (filter p xs)

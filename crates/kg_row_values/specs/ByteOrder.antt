@@ -3,7 +3,7 @@ use Rattle.std.specs.Prelude.{ℕ, List}
 use Rattle.std.specs.Cmp.Lexicographic.{slice_cmp}
 use Rattle.std.specs.List.Sorted.{IsStrictlySortedBy}
 use Rattle.std.specs.Ordering.{nat_cmp}
-use Rattle.kg_row_values.specs.InOrder.{in_order}
+use Rattle.kg_tables.specs.InOrder.{in_order}
 
 -- the texts in byte order, each once
 abbrev pub in_byte_order : List (List ℕ) → List (List ℕ)

@@ -22,9 +22,10 @@ pub record NamesChangedKeys (before after : RowLists) (keys : List Key) : Type 0
   pub others : (k : Key) → Contains keys k ⊎ (value_of before k ≡ value_of after k)
   pub distinct : AllPairs (λ a b. a ≢ b) keys
 
--- the generations are those that differ, each once
+-- the generations are those that differ, each once; the other one stays as it was
 pub record NamesChangedGenerations (before after : RowLists) (gens : List GenKey) : Type 0 where
   pub each : (g : GenKey) → Contains gens g ↔ (generation_of before g ≢ generation_of after g)
+  pub others : (g : GenKey) → Contains gens g ⊎ (generation_of before g ≡ generation_of after g)
   pub distinct : AllPairs (λ a b. a ≢ b) gens
 
 -- what is touched is exactly what differs

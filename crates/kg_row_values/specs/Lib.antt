@@ -1,6 +1,6 @@
 pub mod ByteOrder
 pub mod Changes
-pub mod InOrder
+pub mod Commits
 pub mod Rows
 pub mod Values
 pub mod Watching

@@ -1,6 +1,6 @@
 //! Which generations a command changes.
 
-ghost use Rattle.std.specs.Prelude.{◌≡◌, ◌≢◌, ◌==◌, ◌↔◌, IsTrue, IfOk};
+ghost use Rattle.std.specs.Prelude.{◌≡◌, ◌==◌, ◌↔◌, [], ◌∷◌, ◌++◌, IsTrue, IfOk, if◌then◌else◌};
 ghost use Rattle.kg_row_types.specs.RowChanges.{names_row};
 ghost use Rattle.kg_row_types.specs.Tables.{replaced};
 ghost use Rattle.kg_row_types.specs.declared.key.GenKey.TheVariants.{Router as OfRouter, Plugins as OfPlugins};
@@ -23,82 +23,89 @@ pub fn changed_generations(
 ) -> Result<List<GenKey>, NoMemory>
     ensures { IfOk result (λ gens. NamesChangedGenerations rows.now (changed command.now rows.now) gens) }
 {
-    let router = changes_router(rows, command);
-    let plugins = changes_plugins(rows, command);
+    let router = keeps_router(rows, command);
+    let plugins = keeps_plugins(rows, command);
+    changed_of(alloc, router, plugins)
+}
+
+// The generations that don't stay as they are.
+fn changed_of(alloc: Global, router: bool, plugins: bool) -> Result<List<GenKey>, NoMemory>
+    ensures { IfOk result (λ gens. gens ≡ (if router then [] else OfRouter ∷ []) ++ (if plugins then [] else OfPlugins ∷ [])) }
+{
     let mut gens = List::new(alloc);
-    if router {
+    if !router {
         gens.push(GenKey::Router)?;
     }
-    if plugins {
+    if !plugins {
         gens.push(GenKey::Plugins)?;
     }
     Ok(gens)
 }
 
-fn changes_router(rows: &Rows, command: &Command) -> bool
-    ensures { IsTrue result ↔ (generation_of rows.now OfRouter ≢ generation_of (changed command.now rows.now) OfRouter) }
+fn keeps_router(rows: &Rows, command: &Command) -> bool
+    ensures { IsTrue result ↔ (generation_of rows.now OfRouter ≡ generation_of (changed command.now rows.now) OfRouter) }
+{
+    match command {
+        Command::Insert(new) => match new {
+            Entity::Service(_) => false,
+            Entity::Route(_) => false,
+            Entity::Consumer(_) => true,
+            Entity::KeyCred(_) => true,
+            Entity::BasicCred(_) => true,
+            Entity::Acl(_) => true,
+            Entity::Plugin(_) => true,
+        },
+        Command::Update(new) => match new {
+            Entity::Service(new) => keeps_service(rows, new),
+            Entity::Route(new) => keeps_route(rows, new),
+            Entity::Consumer(_) => true,
+            Entity::KeyCred(_) => true,
+            Entity::BasicCred(_) => true,
+            Entity::Acl(_) => true,
+            Entity::Plugin(_) => true,
+        },
+        Command::Delete { kind, id } => match kind {
+            Kind::Service => !rows.contains(Kind::Service, *id),
+            Kind::Route => !rows.contains(Kind::Route, *id),
+            Kind::Consumer => true,
+            Kind::KeyCred => true,
+            Kind::BasicCred => true,
+            Kind::Acl => true,
+            Kind::Plugin => true,
+        },
+    }
+}
+
+fn keeps_plugins(rows: &Rows, command: &Command) -> bool
+    ensures { IsTrue result ↔ (generation_of rows.now OfPlugins ≡ generation_of (changed command.now rows.now) OfPlugins) }
 {
     match command {
         Command::Insert(new) => match new {
             Entity::Service(_) => true,
             Entity::Route(_) => true,
-            Entity::Consumer(_) => false,
-            Entity::KeyCred(_) => false,
-            Entity::BasicCred(_) => false,
-            Entity::Acl(_) => false,
+            Entity::Consumer(_) => true,
+            Entity::KeyCred(_) => true,
+            Entity::BasicCred(_) => true,
+            Entity::Acl(_) => true,
             Entity::Plugin(_) => false,
         },
         Command::Update(new) => match new {
-            Entity::Service(new) => replaces_service(rows, new),
-            Entity::Route(new) => replaces_route(rows, new),
-            Entity::Consumer(_) => false,
-            Entity::KeyCred(_) => false,
-            Entity::BasicCred(_) => false,
-            Entity::Acl(_) => false,
-            Entity::Plugin(_) => false,
+            Entity::Service(_) => true,
+            Entity::Route(_) => true,
+            Entity::Consumer(_) => true,
+            Entity::KeyCred(_) => true,
+            Entity::BasicCred(_) => true,
+            Entity::Acl(_) => true,
+            Entity::Plugin(new) => keeps_plugin(rows, new),
         },
         Command::Delete { kind, id } => match kind {
-            Kind::Service => rows.contains(Kind::Service, *id),
-            Kind::Route => rows.contains(Kind::Route, *id),
-            Kind::Consumer => false,
-            Kind::KeyCred => false,
-            Kind::BasicCred => false,
-            Kind::Acl => false,
-            Kind::Plugin => false,
-        },
-    }
-}
-
-fn changes_plugins(rows: &Rows, command: &Command) -> bool
-    ensures { IsTrue result ↔ (generation_of rows.now OfPlugins ≢ generation_of (changed command.now rows.now) OfPlugins) }
-{
-    match command {
-        Command::Insert(new) => match new {
-            Entity::Service(_) => false,
-            Entity::Route(_) => false,
-            Entity::Consumer(_) => false,
-            Entity::KeyCred(_) => false,
-            Entity::BasicCred(_) => false,
-            Entity::Acl(_) => false,
-            Entity::Plugin(_) => true,
-        },
-        Command::Update(new) => match new {
-            Entity::Service(_) => false,
-            Entity::Route(_) => false,
-            Entity::Consumer(_) => false,
-            Entity::KeyCred(_) => false,
-            Entity::BasicCred(_) => false,
-            Entity::Acl(_) => false,
-            Entity::Plugin(new) => replaces_plugin(rows, new),
-        },
-        Command::Delete { kind, id } => match kind {
-            Kind::Service => names_one(rows, Kind::Service, *id),
-            Kind::Route => names_one(rows, Kind::Route, *id),
-            Kind::Consumer => names_one(rows, Kind::Consumer, *id),
-            Kind::KeyCred => false,
-            Kind::BasicCred => false,
-            Kind::Acl => false,
-            Kind::Plugin => rows.contains(Kind::Plugin, *id),
+            Kind::Service => !names_one(rows, Kind::Service, *id),
+            Kind::Route => !names_one(rows, Kind::Route, *id),
+            Kind::Consumer => !names_one(rows, Kind::Consumer, *id),
+            Kind::KeyCred => true,
+            Kind::BasicCred => true,
+            Kind::Acl => true,
+            Kind::Plugin => !rows.contains(Kind::Plugin, *id),
         },
     }
 }
@@ -107,36 +114,36 @@ fn changes_plugins(rows: &Rows, command: &Command) -> bool
 fn names_one(rows: &Rows, kind: Kind, id: Id) -> bool
     ensures { result ≡ list_any (names_row kind id) rows.now.plugins }
 {
-    rows.plugins()
-        .as_slice()
-        .iter()
-        .any(|plugin| plugin.scope.names(kind, id))
+    match rows.plugins().first_of(kind, id) {
+        Some(_) => true,
+        None => false,
+    }
 }
 
-// The row replaces one of its id that differs from it.
-fn replaces_service(rows: &Rows, new: &Service) -> bool
-    ensures { IsTrue result ↔ (rows.now.services ≢ replaced (λ row. row.id == new.now.id) new.now rows.now.services) }
+// No row of its id differs from the row that would replace it.
+fn keeps_service(rows: &Rows, new: &Service) -> bool
+    ensures { IsTrue result ↔ (rows.now.services ≡ replaced (λ row. row.id == new.now.id) new.now rows.now.services) }
 {
     match rows.services().get(new.id) {
-        Some(old) => !is_same_service(old, new),
-        None => false,
+        Some(old) => is_same_service(old, new),
+        None => true,
     }
 }
 
-fn replaces_route(rows: &Rows, new: &Route) -> bool
-    ensures { IsTrue result ↔ (rows.now.routes ≢ replaced (λ row. row.id == new.now.id) new.now rows.now.routes) }
+fn keeps_route(rows: &Rows, new: &Route) -> bool
+    ensures { IsTrue result ↔ (rows.now.routes ≡ replaced (λ row. row.id == new.now.id) new.now rows.now.routes) }
 {
     match rows.routes().get(new.id) {
-        Some(old) => !is_same_route(old, new),
-        None => false,
+        Some(old) => is_same_route(old, new),
+        None => true,
     }
 }
 
-fn replaces_plugin(rows: &Rows, new: &PluginRow) -> bool
-    ensures { IsTrue result ↔ (rows.now.plugins ≢ replaced (λ row. row.id == new.now.id) new.now rows.now.plugins) }
+fn keeps_plugin(rows: &Rows, new: &PluginRow) -> bool
+    ensures { IsTrue result ↔ (rows.now.plugins ≡ replaced (λ row. row.id == new.now.id) new.now rows.now.plugins) }
 {
     match rows.plugins().get(new.id) {
-        Some(old) => !is_same_plugin(old, new),
-        None => false,
+        Some(old) => is_same_plugin(old, new),
+        None => true,
     }
 }

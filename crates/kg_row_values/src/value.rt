@@ -1,6 +1,6 @@
 //! The values of keys.
 
-ghost use Rattle.std.specs.Prelude.{◌≡◌, ◌==◌, ◌&&◌, ◌||◌, [], not, ◌↔◌, IsTrue, IfOk, filter, find, fold, map};
+ghost use Rattle.std.specs.Prelude.{◌≡◌, ◌==◌, [], ◌↔◌, IsTrue, IfOk, filter, find, fold, map};
 ghost use Rattle.std.specs.BTreeSet.{insert_key};
 ghost use Rattle.std.specs.Cmp.Lexicographic.{slice_cmp};
 ghost use Rattle.std.specs.Ordering.{nat_cmp};
@@ -11,7 +11,7 @@ ghost use Rattle.kg_row_values.specs.ByteOrder.{IsInByteOrder};
 ghost use Rattle.kg_row_values.specs.Values.{value_of, groups_of};
 ghost use Rattle.kg_row_values.specs.Watching.{IsOrderly};
 
-use kg_entities::{AclRow, BasicCred, Consumer, Id, Key, KeyCred, Rows, Value};
+use kg_entities::{AclRow, BasicCred, Consumer, Id, Key, KeyCred, Kind, Rows, Value, Walk};
 use kg_text::{List, NoMemory, Text, TryClone};
 use std::alloc::Global;
 use std::collections::BTreeSet;
@@ -48,24 +48,16 @@ fn copied<T: TryClone>(alloc: Global, found: Option<&T>) -> Result<Option<T>, No
 fn consumer_groups(alloc: Global, rows: &Rows, consumer: Id) -> Result<List<Text>, NoMemory>
     ensures { IfOk result (λ groups. groups ≡ groups_of consumer rows.now.acls) }
 {
-    groups_of(alloc, rows.acls_of(consumer), consumer)
-}
-
-fn groups_of(alloc: Global, acls: &[AclRow], consumer: Id) -> Result<List<Text>, NoMemory>
-    ensures { IfOk result (λ groups. groups ≡ groups_of consumer acls.now) }
-{
-    let groups = group_set(alloc, acls, consumer)?;
+    let groups = group_set(alloc, rows.acls().of(Kind::Consumer, consumer))?;
     listed(alloc, groups)
 }
 
-fn group_set(alloc: Global, acls: &[AclRow], consumer: Id) -> Result<BTreeSet<Text>, NoMemory>
-    ensures { IfOk result (λ set. set.keys ≡ fold (insert_key (slice_cmp nat_cmp)) [] (map (λ row. row.group) (filter (λ row. row.consumer == consumer) acls.now))) }
+fn group_set(alloc: Global, memberships: Walk<'_, AclRow>) -> Result<BTreeSet<Text>, NoMemory>
+    ensures { IfOk result (λ set. set.keys ≡ fold (insert_key (slice_cmp nat_cmp)) [] (map (λ row. row.group) memberships.entry)) }
 {
     let mut groups = BTreeSet::new(alloc);
-    for row in acls {
-        if row.consumer == consumer {
-            groups.insert(row.group.try_clone(alloc)?)?;
-        }
+    for row in memberships {
+        groups.insert(row.group.try_clone(alloc)?)?;
     }
     Ok(groups)
 }
@@ -102,7 +94,7 @@ pub fn has_value(rows: &Rows, key: &Key, value: &Value) -> bool
             _ => false,
         },
         Key::Acls(id) => match value {
-            Value::Acls(groups) => has_consumer_groups(rows, *id, groups),
+            Value::Acls(groups) => has_groups(rows, *id, groups),
             _ => false,
         },
     }
@@ -153,24 +145,20 @@ fn is_consumer(now: Option<&Consumer>, before: &Option<Consumer>) -> bool
     }
 }
 
-fn has_consumer_groups(rows: &Rows, consumer: Id, groups: &List<Text>) -> bool
-    ensures { IsInByteOrder groups.now → IsTrue result ↔ (groups_of consumer rows.now.acls ≡ groups.now) }
-{
-    has_groups(rows.acls_of(consumer), consumer, groups)
-}
-
 // The groups of a consumer are these: each of its groups is among them, and each of them is one of its
 // groups.
-fn has_groups(acls: &[AclRow], consumer: Id, groups: &List<Text>) -> bool
-    ensures { IsInByteOrder groups.now → IsTrue result ↔ (groups_of consumer acls.now ≡ groups.now) }
+fn has_groups(rows: &Rows, consumer: Id, groups: &List<Text>) -> bool
+    ensures { IsInByteOrder groups.now → IsTrue result ↔ (groups_of consumer rows.now.acls ≡ groups.now) }
 {
-    are_among(acls, consumer, groups) && has_each(acls, consumer, groups)
+    are_among(rows, consumer, groups) && has_each(rows, consumer, groups)
 }
 
-fn are_among(acls: &[AclRow], consumer: Id, groups: &List<Text>) -> bool
-    ensures { result ≡ list_all (λ row. not (row.consumer == consumer) || list_any (bytes_eq row.group) groups.now) acls.now }
+fn are_among(rows: &Rows, consumer: Id, groups: &List<Text>) -> bool
+    ensures { result ≡ list_all (λ row. list_any (bytes_eq row.group) groups.now) (filter (λ row. row.consumer == consumer) rows.now.acls) }
 {
-    acls.iter().all(|row| row.consumer != consumer || is_group(groups, &row.group))
+    rows.acls()
+        .of(Kind::Consumer, consumer)
+        .all(|row| is_group(groups, &row.group))
 }
 
 fn is_group(groups: &List<Text>, group: &Text) -> bool
@@ -179,18 +167,19 @@ fn is_group(groups: &List<Text>, group: &Text) -> bool
     groups.as_slice().iter().any(|other| group == other)
 }
 
-fn has_each(acls: &[AclRow], consumer: Id, groups: &List<Text>) -> bool
-    ensures { result ≡ list_all (λ group. list_any (λ row. row.consumer == consumer && bytes_eq group row.group) acls.now) groups.now }
+fn has_each(rows: &Rows, consumer: Id, groups: &List<Text>) -> bool
+    ensures { result ≡ list_all (λ group. list_any (λ row. bytes_eq group row.group) (filter (λ row. row.consumer == consumer) rows.now.acls)) groups.now }
 {
     groups
         .as_slice()
         .iter()
-        .all(|group| is_member(acls, consumer, group))
+        .all(|group| is_member(rows, consumer, group))
 }
 
-fn is_member(acls: &[AclRow], consumer: Id, group: &Text) -> bool
-    ensures { result ≡ list_any (λ row. row.consumer == consumer && bytes_eq group.now row.group) acls.now }
+fn is_member(rows: &Rows, consumer: Id, group: &Text) -> bool
+    ensures { result ≡ list_any (λ row. bytes_eq group.now row.group) (filter (λ row. row.consumer == consumer) rows.now.acls) }
 {
-    acls.iter()
-        .any(|row| row.consumer == consumer && *group == row.group)
+    rows.acls()
+        .of(Kind::Consumer, consumer)
+        .any(|row| *group == row.group)
 }
