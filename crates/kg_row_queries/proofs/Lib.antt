@@ -1,0 +1,4 @@
+mod BelowLemmas
+pub mod FoundLemmas
+mod PageLemmas
+mod ValidFound
