@@ -1,6 +1,3 @@
-mod KeptHosts
-mod KeptIds
-mod KeptPasswords
 mod ReadBackConsumers
 mod ReadBackCredentials
 mod ReadBackParts
@@ -9,6 +6,9 @@ mod ReadHeaders
 mod ReadNumbers
 mod ReadTexts
 mod ReadUrls
+mod StoredHosts
+mod StoredIds
+mod StoredPasswords
 mod ValidConfigs
 mod ValidConsumers
 mod ValidFinished

@@ -10,6 +10,7 @@ use Rattle.kg_row_types.specs.declared.entity.Kind.TheVariants as kind
 use Rattle.kg_field_rules.specs.declared.text_kind.TextKind.TheVariants as text_kind
 use Rattle.kg_field_tables.specs.BrokenRules.{violations_in}
 use Rattle.kg_field_tables.specs.declared.table.Table.TheVariants as table
+use Rattle.kg_bodies.specs.TableSettings.{text_in}
 use Rattle.kg_row_making.specs.Bases.{Again}
 use Rattle.kg_schema.proofs.ReadBackParts.{each_fits, Fits, fits_free, fits_username, none_broken, option_inside, option_over, option_rule, printed_id}
 use Rattle.kg_schema.specs.Finished.{row_over}
@@ -50,7 +51,7 @@ module _ (consumer : Consumer) (valid : IsValidConsumer consumer) where
   same now username username_read custom_id custom_id_read a b = rw (a, b) refl
 
   again : (now : ℕ) → row_over kind.Consumer (shown (row.Consumer consumer)) (Again consumer.id consumer.created_at now) (named_by (row.Consumer consumer)) ≡ changed_at (now / 1000) (row.Consumer consumer)
-  unfolding row_over
+  unfolding row_over text_in
   again now = same now consumer.username _ consumer.custom_id _ (option_over text_kind.Username consumer.username username) (option_over text_kind.FreeText consumer.custom_id custom_id)
 
 pub consumer_read_back : (consumer : Consumer) → IsValidConsumer consumer → IsReadBack (row.Consumer consumer)

@@ -10,6 +10,7 @@ use Rattle.kg_field_rules.specs.declared.text_kind.TextKind.TheVariants as text_
 use Rattle.kg_field_tables.specs.BrokenRules.{violations_in}
 use Rattle.kg_field_tables.specs.declared.reference.Mention.TheVariants as mention
 use Rattle.kg_field_tables.specs.declared.table.Table.TheVariants as table
+use Rattle.kg_bodies.specs.TableSettings.{text_in}
 use Rattle.kg_row_making.specs.Bases.{Again}
 use Rattle.kg_schema.proofs.ReadBackParts.{fits_free, none_broken, printed_id, reference_rule, text_over}
 use Rattle.kg_schema.specs.Finished.{row_over}
@@ -18,7 +19,7 @@ use Rattle.kg_shown_rows.specs.Shown.{acl_members, key_members, shown}
 use Rattle.kg_shown_rows.specs.ShownParts.{members_of, shown_id, shown_number, shown_reference}
 
 pub key_read_back : (credential : KeyCred) → IsValidKeyCred credential → IsReadBack (row.KeyCred credential)
-unfolding row_over
+unfolding row_over text_in
 key_read_back credential valid = record { accepted = accepted; again = again }
   where
     accepted : violations_in (members_of (key_members credential)) table.KeyCred [] ≡ []
@@ -40,7 +41,7 @@ key_read_back credential valid = record { accepted = accepted; again = again }
     again now = ap (λ key. row.KeyCred (record { id = credential.id; consumer = credential.consumer; key = key; created_at = credential.created_at })) (text_over text_kind.FreeText credential.key [] (fits_free credential.key valid.key))
 
 pub acl_read_back : (membership : AclRow) → IsValidAcl membership → IsReadBack (row.Acl membership)
-unfolding row_over
+unfolding row_over text_in
 acl_read_back membership valid = record { accepted = accepted; again = again }
   where
     accepted : violations_in (members_of (acl_members membership)) table.Acl [] ≡ []

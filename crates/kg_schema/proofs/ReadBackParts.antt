@@ -6,11 +6,11 @@ use Rattle.std.specs.Option.{option_map_or, option_or}
 use Rattle.std.specs.Prelude.{IfSome, IsTrue, ⊤}
 use Rattle.serde_json.specs.Data.{Data, string}
 use Rattle.serde_json.specs.Find.{as_number, as_str, as_u64}
+use Rattle.kg_text.specs.Hosts.{is_host}
 use Rattle.kg_text.specs.Paths.{normal_form}
 use Rattle.uuid.proofs.TextLemmas.{by_index_length}
 use Rattle.kg_row_types.proofs.IdLemmas.{id_of-printed}
 use Rattle.kg_row_types.specs.Ids.{id_of, printed}
-use Rattle.kg_text.specs.Hosts.{is_host}
 use Rattle.kg_row_types.specs.TextForms.{has_length, is_free_text, is_name, is_normal_path, is_username}
 use Rattle.kg_field_rules.specs.TextRules.{has_form, stored, longest, text_rule}
 use Rattle.kg_field_rules.specs.declared.rule.Rule.{Rule}
@@ -42,7 +42,7 @@ not_empty n most within = grind (arith, nat_tests)
 not_longer : (n most : ℕ) → (nat_lt 0 n && nat_le n most) ≡ true → nat_lt most n ≡ false
 not_longer n most within = grind (arith, nat_tests)
 
-within_ok : (kind : TextKind) (most : ℕ) → longest kind ≡ Some most → (text : List ℕ) → (has_length most text && has_form kind text) ≡ true → text_rule kind text ≡ None
+pub within_ok : (kind : TextKind) (most : ℕ) → longest kind ≡ Some most → (text : List ℕ) → (has_length most text && has_form kind text) ≡ true → text_rule kind text ≡ None
 within_ok kind most bound text ok =
     let parts = and_parts (has_length most text) (has_form kind text) ok in
     breaks_none kind text (not_empty (length text) most parts.0)
@@ -61,7 +61,7 @@ taken wanted d = if is_set d then (if is_some (judged wanted d) then None else S
 abbrev pub text_of : TextKind → Data → Option (List ℕ)
 text_of kind d = option_map (stored kind) (option_and_then as_str (taken (shape.Text kind) d))
 
-text_again : (kind : TextKind) (text : List ℕ) → Fits kind text → text_of kind (string text) ≡ Some text
+pub text_again : (kind : TextKind) (text : List ℕ) → Fits kind text → text_of kind (string text) ≡ Some text
 text_again kind text fits =
     ap (λ r. option_map (stored kind) (option_and_then as_str (if is_some r then None else Some (string text)))) fits.rule ∙ ap (λ t. Some t) fits.same
 
@@ -69,7 +69,7 @@ option_again : (kind : TextKind) (text : Option (List ℕ)) → IfSome text (Fit
 option_again kind None fits = refl
 option_again kind (Some text) fits = text_again kind text fits
 
-or_none : {A : Type 0} (o : Option A) → option_or o None ≡ o
+pub or_none : {A : Type 0} (o : Option A) → option_or o None ≡ o
 or_none None = refl
 or_none (Some x) = refl
 
@@ -140,7 +140,7 @@ both_within low high n above below = grind (arith, nat_tests)
 pub whole_rule_ok : (low high n : ℕ) → low ≤ n → n ≤ high → judged (shape.Whole low high) (shown_number n) ≡ None
 whole_rule_ok low high n above below = ap (λ b. if b then None else Some OutOfRange) (both_within low high n above below)
 
-whole_again : (low high n : ℕ) → low ≤ n → n ≤ high → whole_of low high (shown_number n) ≡ Some n
+pub whole_again : (low high n : ℕ) → low ≤ n → n ≤ high → whole_of low high (shown_number n) ≡ Some n
 whole_again low high n above below =
     ap (λ r. option_and_then as_u64 (option_and_then as_number (if is_some r then None else Some (shown_number n)))) (whole_rule_ok low high n above below)
 

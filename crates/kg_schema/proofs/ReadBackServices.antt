@@ -11,6 +11,7 @@ use Rattle.kg_row_types.specs.declared.service.Service.{Service}
 use Rattle.kg_field_rules.specs.declared.text_kind.TextKind.TheVariants as text_kind
 use Rattle.kg_field_tables.specs.BrokenRules.{violations_in}
 use Rattle.kg_field_tables.specs.declared.table.Table.TheVariants as table
+use Rattle.kg_bodies.specs.TableSettings.{text_in, whole_in}
 use Rattle.kg_row_making.specs.Bases.{Again}
 use Rattle.kg_schema.proofs.ReadBackParts.{each_fits, Fits, fits_host, fits_name, fits_path, none_broken, option_inside, option_over, option_rule, printed_id, text_over, whole_over, whole_rule_ok}
 use Rattle.kg_schema.specs.Finished.{row_over}
@@ -81,7 +82,7 @@ module _ (service : Service) (valid : IsValidService service) where
   same now name name_read host host_read port port_read path path_read retries retries_read a b c d e = rw (a, b, c, d, e) refl
 
   again : (now : ℕ) → row_over kind.Service (shown (row.Service service)) (Again service.id service.created_at now) (named_by (row.Service service)) ≡ changed_at (now / 1000) (row.Service service)
-  unfolding row_over
+  unfolding row_over text_in whole_in
   again now =
       same now service.name _ service.host _ service.port _ service.path _ service.retries _
       (option_over text_kind.Name service.name name) (text_over text_kind.Host service.host [] (fits_host service.host valid.host)) (whole_over 1 65535 service.port 80 valid.port.0 valid.port.1)

@@ -9,8 +9,8 @@ use Rattle.std.specs.Option.{option_map_or}
 use Rattle.std.specs.Prelude.{IfSome, IsTrue}
 use Rattle.serde_json.specs.Data.{Data}
 use Rattle.serde_json.specs.Find.{as_str, get}
-use Rattle.kg_row_types.specs.ConfigTexts.{is_key_name, is_ipv4_block, is_edit, is_header_edit, is_header_rename}
 use Rattle.kg_text.specs.Hosts.{is_host}
+use Rattle.kg_row_types.specs.ConfigTexts.{is_key_name, is_ipv4_block, is_edit, is_header_edit, is_header_rename}
 use Rattle.kg_row_types.specs.TextForms.{are_distinct, has_length, is_free_text, is_list_of, is_method, is_name, is_normal_path, is_route_path, is_text_within, is_username}
 use Rattle.kg_field_tables.specs.Judging.{is_set, judged, list_rule, shape_rule, texts_of, typed}
 use Rattle.kg_bodies.proofs.ListLemmas.{list_steps}

@@ -23,13 +23,14 @@ use Rattle.kg_row_types.specs.declared.config.SizeLimit.{SizeLimit}
 use Rattle.kg_row_types.specs.declared.config.Termination.{Termination}
 use Rattle.kg_row_types.specs.declared.plugin.PluginName.{PluginName}
 use Rattle.kg_row_types.specs.declared.plugin.PluginName.TheVariants as plugin
-use Rattle.kg_schema.proofs.KeptIds.{takes_anonymous}
+use Rattle.kg_schema.proofs.StoredIds.{takes_anonymous}
 use Rattle.kg_schema.proofs.ReadNumbers.{whole_ok}
 use Rattle.kg_schema.proofs.ReadTexts.{Takes, takes_block, takes_edit, takes_free_text, takes_header_edit, takes_header_rename, takes_key_name, takes_long_text, takes_method, text_ok, texts_ok}
 use Rattle.kg_schema.proofs.ValidParts.{list_over_ok, neither, not_broken, or_ok, unwrapped_ok}
 use Rattle.kg_schema.specs.Between.{config_violations, violation_if, groups_violations, has_both, has_neither, ip_restriction_violations, rate_limiting_violations, termination_violations}
-use Rattle.kg_row_making.specs.FinishedConfigs.{basic_auth_over, config_over, cors_over, default_config, edits_over, groups_over, ip_restriction_over, key_auth_over, limit_at, rate_limiting_over, request_transformer_over, response_transformer_over, size_limit_over, termination_over}
+use Rattle.kg_row_making.specs.FinishedConfigs.{basic_auth_over, config_over, cors_over, default_config, groups_over, ip_restriction_over, key_auth_over, rate_limiting_over, request_transformer_over, response_transformer_over, size_limit_over, termination_over}
 use Rattle.kg_bodies.specs.Settings.{inside, text_at, texts_at, whole_at}
+use Rattle.kg_bodies.specs.TableSettings.{text_in, texts_in, whole_in}
 use Rattle.kg_field_rules.specs.declared.rule.Rule.TheVariants.{Exclusive, Required}
 use Rattle.kg_field_rules.specs.declared.text_kind.TextKind.{TextKind}
 use Rattle.kg_field_rules.specs.declared.text_kind.TextKind.TheVariants as text_kind
@@ -79,6 +80,7 @@ still_set set before some = at_empty (length set == 0) refl
 -- ---- each plugin
 
 cors_ok : (config : Data) (before : Cors) → IsValidCors before → IsValidCors (cors_over config before)
+unfolding text_in texts_in whole_in
 cors_ok config before old =
     let methods = and_parts (is_list_of is_method before.methods) (nat_lt 0 (length before.methods)) old.methods in
     let after = cors_over config before in
@@ -101,6 +103,7 @@ anonymous_ok config before old =
     or_ok (λ text. IsTrue (is_free_text text && is_printed_if_id text)) (text_at text_kind.Anonymous (codes "anonymous") config) before (text_ok text_kind.Anonymous (λ text. is_free_text text && is_printed_if_id text) takes_anonymous (codes "anonymous") config) old
 
 key_auth_ok : (config : Data) (before : KeyAuth) → IsValidKeyAuth before → IsValidKeyAuth (key_auth_over config before)
+unfolding text_in texts_in whole_in
 key_auth_ok config before old =
     let names = and_parts (is_list_of is_key_name before.key_names) (nat_lt 0 (length before.key_names)) old.key_names in
     let after = key_auth_over config before in
@@ -112,6 +115,7 @@ key_auth_ok config before old =
     }
 
 basic_auth_ok : (config : Data) (before : BasicAuth) → IsValidBasicAuth before → IsValidBasicAuth (basic_auth_over config before)
+unfolding text_in texts_in whole_in
 basic_auth_ok config before old = record { anonymous = anonymous_ok config before.anonymous old.anonymous }
 
 -- the lists of addresses, of which both may be missing before a body sets them
@@ -120,6 +124,7 @@ pub record AreBlocks (config : IpRestriction) : Type 0 where
   deny : IsListOf is_ipv4_block config.deny
 
 ip_restriction_ok : (config : Data) (before : IpRestriction) → AreBlocks before → ip_restriction_violations (ip_restriction_over config before) ≡ [] → IsValidIpRestriction (ip_restriction_over config before)
+unfolding text_in texts_in whole_in
 ip_restriction_ok config before old none =
     let after = ip_restriction_over config before in
     record {
@@ -129,6 +134,7 @@ ip_restriction_ok config before old none =
     }
 
 size_limit_ok : (config : Data) (before : SizeLimit) → IsValidSizeLimit before → IsValidSizeLimit (size_limit_over config before)
+unfolding text_in texts_in whole_in
 size_limit_ok config before old = record {
   size = unwrapped_ok (λ n. (1 ≤ n) × (n ≤ 1000000000)) (whole_at 1 1000000000 (codes "allowed_payload_size") config) before.allowed_payload_size (whole_ok 1 1000000000 (codes "allowed_payload_size") config) old.size;
 }
@@ -139,6 +145,7 @@ pub record AreGroups (config : Acl) : Type 0 where
   deny : IsListOf is_free_text config.deny
 
 groups_ok : (config : Data) (before : Acl) → AreGroups before → groups_violations (groups_over config before) ≡ [] → IsValidAclConfig (groups_over config before)
+unfolding text_in texts_in whole_in
 groups_ok config before old none =
     let after = groups_over config before in
     let told = neither (violation_if (has_both after.allow after.deny) (codes "config.allow") Exclusive) (violation_if (has_neither after.allow after.deny) (codes "config.allow") Required) none in
@@ -156,8 +163,8 @@ pub record AreLimits (config : RateLimiting) : Type 0 where
   hour : IsLimit config.hour
   day : IsLimit config.day
 
-limit_ok : (name : List ℕ) (config : Data) (before : Option ℕ) → IsLimit before → IsLimit (option_or (limit_at name config) before)
-limit_ok name config before old = or_ok (λ n. (1 ≤ n) × (n ≤ 1000000000)) (limit_at name config) before (whole_ok 1 1000000000 name config) old
+limit_ok : (name : List ℕ) (config : Data) (before : Option ℕ) → IsLimit before → IsLimit (option_or (whole_at 1 1000000000 name config) before)
+limit_ok name config before old = or_ok (λ n. (1 ≤ n) × (n ≤ 1000000000)) (whole_at 1 1000000000 name config) before (whole_ok 1 1000000000 name config) old
 
 any_known : (a b c d : Bool) → (not a && not b && not c && not d) ≡ false → (a || b || c || d) ≡ true
 any_known true b c d some = refl
@@ -167,6 +174,7 @@ any_known false false false true some = refl
 any_known false false false false some = cc
 
 rate_limiting_ok : (config : Data) (before : RateLimiting) → AreLimits before → rate_limiting_violations (rate_limiting_over config before) ≡ [] → IsValidRateLimiting (rate_limiting_over config before)
+unfolding text_in texts_in whole_in
 rate_limiting_ok config before old none =
     let after = rate_limiting_over config before in
     record {
@@ -181,7 +189,13 @@ rate_limiting_ok config before old none =
 abbrev edits : List (List ℕ) → List (List ℕ) → Edits
 edits headers querystring = record { headers = headers; querystring = querystring }
 
-edits_ok : (kind : TextKind) (test : List ℕ → Bool) → Takes kind test → (step : Data) (before : Edits) → IsTrue (are_edits test before) → IsTrue (are_edits test (edits_over kind step before))
+-- the lists of one step, by the kind of the headers' texts
+abbrev edits_read : TextKind → Data → Edits → Edits
+edits_read kind step before =
+    if length (texts_at kind (codes "headers") step) == 0 && length (texts_at text_kind.Edit (codes "querystring") step) == 0 then before
+    else edits (texts_at kind (codes "headers") step) (texts_at text_kind.Edit (codes "querystring") step)
+
+edits_ok : (kind : TextKind) (test : List ℕ → Bool) → Takes kind test → (step : Data) (before : Edits) → IsTrue (are_edits test before) → IsTrue (are_edits test (edits_read kind step before))
 edits_ok kind test takes step before old = at_empty (length (texts_at kind (codes "headers") step) == 0 && length (texts_at text_kind.Edit (codes "querystring") step) == 0)
   where
     at_empty : (b : Bool) → IsTrue (are_edits test (if b then before else edits (texts_at kind (codes "headers") step) (texts_at text_kind.Edit (codes "querystring") step)))
@@ -189,6 +203,7 @@ edits_ok kind test takes step before old = at_empty (length (texts_at kind (code
     at_empty false = and_from (is_list_of test (texts_at kind (codes "headers") step)) (is_list_of is_edit (texts_at text_kind.Edit (codes "querystring") step)) (texts_ok kind test takes (codes "headers") step) (texts_ok text_kind.Edit is_edit takes_edit (codes "querystring") step)
 
 request_transformer_ok : (config : Data) (before : RequestTransformer) → IsValidRequestTransformer before → IsValidRequestTransformer (request_transformer_over config before)
+unfolding text_in texts_in whole_in
 request_transformer_ok config before old = record {
   remove = edits_ok text_kind.HeaderEdit is_header_edit takes_header_edit (inside (codes "remove") config) before.remove old.remove;
   rename = edits_ok text_kind.HeaderRename is_header_rename takes_header_rename (inside (codes "rename") config) before.rename old.rename;
@@ -198,6 +213,7 @@ request_transformer_ok config before old = record {
 }
 
 response_transformer_ok : (config : Data) (before : ResponseTransformer) → IsValidResponseTransformer before → IsValidResponseTransformer (response_transformer_over config before)
+unfolding text_in texts_in whole_in
 response_transformer_ok config before old = record {
   remove = list_ok text_kind.HeaderEdit is_header_edit takes_header_edit (codes "headers") (inside (codes "remove") config) before.remove old.remove;
   rename = list_ok text_kind.HeaderRename is_header_rename takes_header_rename (codes "headers") (inside (codes "rename") config) before.rename old.rename;
@@ -214,6 +230,7 @@ pub record AreReplyFields (config : Termination) : Type 0 where
   content_type : IfSome config.content_type IsFree
 
 termination_ok : (config : Data) (before : Termination) → AreReplyFields before → termination_violations (termination_over config before) ≡ [] → IsValidTermination (termination_over config before)
+unfolding text_in texts_in whole_in
 termination_ok config before old none =
     let after = termination_over config before in
     let told = neither (violation_if (is_some after.message && is_some after.body) (codes "config.message") Exclusive) (violation_if (is_some after.content_type && is_none after.body) (codes "config.body") Required) none in

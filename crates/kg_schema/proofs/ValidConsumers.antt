@@ -1,5 +1,5 @@
 -- Finished consumers, credentials and memberships are valid.
-use Rattle.std.proofs.Common.{◌≡◌, inl, inr, ℕ, ◌==◌, Bool, true, false, not, ◌&&◌, ◌||◌, List, [], ◌++◌, length, Option, Some, None, is_none, is_some, option_map, unwrap_or, codes, refl}
+use Rattle.std.proofs.Common.{◌≡◌, inl, inr, ℕ, ◌==◌, Bool, true, false, not, ◌&&◌, ◌||◌, List, [], ◌++◌, length, Option, Some, None, is_none, is_some, unwrap_or, codes, refl}
 use Rattle.std.specs.Option.{option_map_or}
 use Rattle.std.specs.Prelude.{IfSome, IsTrue}
 use Rattle.serde_json.specs.Data.{Data}
@@ -10,13 +10,15 @@ use Rattle.kg_row_types.specs.TextForms.{is_free_text, is_hash, is_username}
 use Rattle.kg_row_types.specs.declared.consumer.Consumer.{Consumer}
 use Rattle.kg_row_types.specs.declared.entity.Entity.TheVariants as row
 use Rattle.kg_row_types.specs.declared.entity.Kind.TheVariants as kind
-use Rattle.kg_schema.proofs.KeptPasswords.{stored_password_ok}
+use Rattle.kg_schema.proofs.StoredPasswords.{stored_password_ok}
 use Rattle.kg_schema.proofs.ReadTexts.{takes_accepted, takes_free_text, takes_username, text_ok}
 use Rattle.kg_schema.proofs.ValidIds.{stamps_ok}
 use Rattle.kg_schema.proofs.ValidParts.{OrEmpty, filled, neither, not_broken, or_ok, unwrapped_ok}
-use Rattle.kg_row_making.specs.Bases.{BaseValue, New, Again, Word, Old, acl_of, basic_of, key_of, old_as, stamps_of}
+use Rattle.kg_row_making.specs.Bases.{BaseValue, New, Again, Word, Old, acl_owner, basic_owner, key_owner, stamps_of}
 use Rattle.kg_schema.specs.Between.{acl_violations, basic_violations, consumer_violations, violation_if, key_violations, owner_violations}
-use Rattle.kg_schema.specs.Finished.{acl_before, acl_over, basic_before, basic_over, consumer_before, consumer_over, key_before, key_over}
+use Rattle.kg_row_making.specs.RowsBefore.{acl_before, basic_before, consumer_before, key_before}
+use Rattle.kg_schema.specs.Finished.{acl_over, basic_over, consumer_over, key_over}
+use Rattle.kg_bodies.specs.TableSettings.{text_in}
 use Rattle.kg_bodies.specs.Settings.{text_at}
 use Rattle.kg_schema.specs.ValidBases.{AreIds, HasId, IsValidBase}
 use Rattle.kg_row_making.specs.declared.base.Links.{Links}
@@ -51,6 +53,7 @@ either_known false true known = refl
 either_known false false known = cc
 
 consumer_over_ok : (body : Data) (before : Consumer) → AreFields before → consumer_violations (consumer_over body before) ≡ [] → IsValidConsumer (consumer_over body before)
+unfolding text_in
 consumer_over_ok body before old none =
     let after = consumer_over body before in
     record {
@@ -97,11 +100,12 @@ key_ids_ok (Old old now) stamps is ok = (is, is)
 pub key_ok : (body : Data) (base : BaseValue) (links : Links) → HasId base → AreIds links → IsValidBase kind.KeyCred base
     → key_violations base links (key_over body links (key_before base (stamps_of base body))) ≡ []
     → IsValidKeyCred (key_over body links (key_before base (stamps_of base body)))
+unfolding text_in
 key_ok body base links is ids ok none =
     let own = key_ids_ok base (stamps_of base body) (stamps_ok kind.KeyCred body base is ok) ok in
     let before = key_before base (stamps_of base body) in
     let after = key_over body links before in
-    let told = neither (owner_violations links (option_map (λ old. old.consumer) (old_as key_of base))) (violation_if (length after.key == 0) (codes "key") Required) none in
+    let told = neither (owner_violations links (key_owner base)) (violation_if (length after.key == 0) (codes "key") Required) none in
     record { id = own.0; consumer = unwrapped_ok IsId links.consumer before.consumer ids.consumer own.1; key = set_or_before (codes "key") body before.key (key_before_ok base (stamps_of base body) ok) (not_broken (length after.key == 0) (codes "key") Required told.1) }
 
 -- ---- passwords
@@ -137,12 +141,13 @@ basic_ids_ok (Old old now) stamps is ok = (is, is)
 pub basic_ok : (body : Data) (base : BaseValue) (links : Links) → HasId base → AreIds links → IsValidBase kind.BasicCred base
     → basic_violations base links (basic_over body links (basic_before base (stamps_of base body))) ≡ []
     → IsValidBasicCred (basic_over body links (basic_before base (stamps_of base body)))
+unfolding text_in
 basic_ok body base links is ids ok none =
     let own = basic_ids_ok base (stamps_of base body) (stamps_ok kind.BasicCred body base is ok) ok in
     let before = basic_before base (stamps_of base body) in
     let after = basic_over body links before in
-    let names = neither (owner_violations links (option_map (λ old. old.consumer) (old_as basic_of base)) ++ violation_if (length after.username == 0) (codes "username") Required) (violation_if (length after.hash == 0) (codes "password") Required) none in
-    let told = neither (owner_violations links (option_map (λ old. old.consumer) (old_as basic_of base))) (violation_if (length after.username == 0) (codes "username") Required) names.0 in
+    let names = neither (owner_violations links (basic_owner base) ++ violation_if (length after.username == 0) (codes "username") Required) (violation_if (length after.hash == 0) (codes "password") Required) none in
+    let told = neither (owner_violations links (basic_owner base)) (violation_if (length after.username == 0) (codes "username") Required) names.0 in
     record {
       id = own.0;
       consumer = unwrapped_ok IsId links.consumer before.consumer ids.consumer own.1;
@@ -169,9 +174,10 @@ acl_ids_ok (Old old now) stamps is ok = (is, is)
 pub acl_ok : (body : Data) (base : BaseValue) (links : Links) → HasId base → AreIds links → IsValidBase kind.Acl base
     → acl_violations base links (acl_over body links (acl_before base (stamps_of base body))) ≡ []
     → IsValidAcl (acl_over body links (acl_before base (stamps_of base body)))
+unfolding text_in
 acl_ok body base links is ids ok none =
     let own = acl_ids_ok base (stamps_of base body) (stamps_ok kind.Acl body base is ok) ok in
     let before = acl_before base (stamps_of base body) in
     let after = acl_over body links before in
-    let told = neither (owner_violations links (option_map (λ old. old.consumer) (old_as acl_of base))) (violation_if (length after.group == 0) (codes "group") Required) none in
+    let told = neither (owner_violations links (acl_owner base)) (violation_if (length after.group == 0) (codes "group") Required) none in
     record { id = own.0; consumer = unwrapped_ok IsId links.consumer before.consumer ids.consumer own.1; group = set_or_before (codes "group") body before.group (acl_before_ok base (stamps_of base body) ok) (not_broken (length after.group == 0) (codes "group") Required told.1) }

@@ -9,7 +9,7 @@ use Rattle.kg_row_types.specs.ValidRows.{IsValidRow}
 use Rattle.kg_row_types.specs.declared.entity.Entity.{Entity}
 use Rattle.kg_row_types.specs.declared.entity.Entity.TheVariants as row
 use Rattle.kg_row_types.specs.declared.entity.Kind.{Kind}
-use Rattle.kg_schema.proofs.KeptIds.{id_fits}
+use Rattle.kg_schema.proofs.StoredIds.{id_fits}
 use Rattle.kg_schema.proofs.ValidParts.{unwrapped_ok}
 use Rattle.kg_row_making.specs.Bases.{BaseValue, New, Again, Word, Old, stamps_of}
 use Rattle.kg_bodies.specs.Settings.{id_at}

@@ -10,10 +10,11 @@ use Rattle.kg_row_types.specs.declared.plugin.PluginRow.{PluginRow}
 use Rattle.kg_schema.proofs.ValidConfigs.{IsConfigBefore, config_ok, default_before, valid_before}
 use Rattle.kg_schema.proofs.ValidIds.{stamps_ok}
 use Rattle.kg_schema.proofs.ValidParts.{neither, not_broken, or_ok}
-use Rattle.kg_row_making.specs.Bases.{BaseValue, New, Again, Word, Old, stamps_of}
-use Rattle.kg_schema.specs.Between.{config_violations, violation_if, known_plugin_violations, old_plugin, plugin_violations, unnamed_config_violations}
+use Rattle.kg_row_making.specs.Bases.{BaseValue, New, Again, Word, Old, old_plugin, stamps_of}
+use Rattle.kg_schema.specs.Between.{config_violations, violation_if, known_plugin_violations, plugin_violations, unnamed_config_violations}
 use Rattle.kg_field_tables.specs.BrokenRules.{named_plugin}
-use Rattle.kg_schema.specs.Finished.{plugin_before, plugin_over}
+use Rattle.kg_row_making.specs.RowsBefore.{plugin_before}
+use Rattle.kg_schema.specs.Finished.{plugin_over}
 use Rattle.kg_field_rules.specs.Rules.{BrokenRule}
 use Rattle.kg_bodies.specs.Settings.{inside}
 use Rattle.kg_schema.specs.ValidBases.{AreIds, HasId, IsValidBase}

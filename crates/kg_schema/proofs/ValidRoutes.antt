@@ -11,7 +11,7 @@ use Rattle.kg_row_types.specs.TextForms.{is_stored_route_host, is_list_of, is_me
 use Rattle.kg_row_types.specs.declared.entity.Entity.TheVariants as row
 use Rattle.kg_row_types.specs.declared.entity.Kind.TheVariants as kind
 use Rattle.kg_row_types.specs.declared.route.Route.{Route}
-use Rattle.kg_schema.proofs.KeptHosts.{takes_route_host}
+use Rattle.kg_schema.proofs.StoredHosts.{takes_route_host}
 use Rattle.kg_schema.proofs.ReadHeaders.{AreOrdered, tests_ok}
 use Rattle.kg_schema.proofs.ReadNumbers.{integer_ok}
 use Rattle.kg_schema.proofs.ReadTexts.{takes_accepted, takes_method, takes_name, takes_route_path, text_ok, texts_ok}
@@ -19,7 +19,9 @@ use Rattle.kg_schema.proofs.ValidIds.{stamps_ok}
 use Rattle.kg_schema.proofs.ValidParts.{list_over_ok, neither, not_broken, or_ok, unwrapped_ok}
 use Rattle.kg_row_making.specs.Bases.{BaseValue, New, Again, Word, Old, old_as, route_of, stamps_of}
 use Rattle.kg_schema.specs.Between.{violation_if, fits_nothing, is_missing, route_violations}
-use Rattle.kg_schema.specs.Finished.{route_before, route_over}
+use Rattle.kg_row_making.specs.RowsBefore.{route_before}
+use Rattle.kg_schema.specs.Finished.{route_over}
+use Rattle.kg_bodies.specs.TableSettings.{integer_in, text_in, texts_in}
 use Rattle.kg_bodies.specs.Settings.{integer_at, text_at, texts_at, tests_at}
 use Rattle.kg_schema.specs.ValidBases.{AreIds, HasId, IsValidBase}
 use Rattle.kg_row_making.specs.declared.base.Links.{Links}
@@ -89,6 +91,7 @@ attributes a b c d some = rw (is_some a, is_some b, is_some c, is_some d) (any_o
 -- ---- the finished route
 
 over_ok : (body : Data) (base : BaseValue) (links : Links) (before : Route) → AreIds links → AreFields before → route_violations base links (route_over body links before) ≡ [] → IsValidRoute (route_over body links before)
+unfolding text_in texts_in integer_in
 over_ok body base links before ids old none =
     let after = route_over body links before in
     let told = neither (violation_if (is_missing links.service (old_as route_of base)) (codes "service") Required) (violation_if (fits_nothing after) (codes "paths") Required) none in

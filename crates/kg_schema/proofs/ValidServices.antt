@@ -16,7 +16,9 @@ use Rattle.kg_schema.proofs.ValidIds.{stamps_ok}
 use Rattle.kg_schema.proofs.ValidParts.{OrEmpty, filled, neither, not_broken, or_ok, unwrapped_ok}
 use Rattle.kg_row_making.specs.Bases.{BaseValue, New, Again, Word, Old, stamps_of}
 use Rattle.kg_schema.specs.Between.{doubles_url, violation_if, service_violations}
-use Rattle.kg_schema.specs.Finished.{address_over, service_before, service_over}
+use Rattle.kg_row_making.specs.RowsBefore.{service_before}
+use Rattle.kg_schema.specs.Finished.{address_over, service_over}
+use Rattle.kg_bodies.specs.TableSettings.{text_in, whole_in}
 use Rattle.kg_bodies.specs.Settings.{text_at, url_at, whole_at}
 use Rattle.kg_schema.specs.ValidBases.{HasId, IsValidBase}
 use Rattle.kg_row_making.specs.declared.base.Stamps.{Stamps}
@@ -62,6 +64,7 @@ host_ok None ok = tt
 host_ok (Some host) ok = inl ok
 
 address_ok : (url : Option Url) (body : Data) (before : Service) → IfSome url IsAddress → AreFields before → AreFields (address_over url body before)
+unfolding text_in whole_in
 address_ok (Some url) body before ok old = record { id = old.id; name = old.name; host = inl ok.host; port = ok.port; path = ok.path; retries = old.retries }
 address_ok None body before ok old = record {
   id = old.id;
@@ -73,6 +76,7 @@ address_ok None body before ok old = record {
 }
 
 over_ok : (body : Data) (before : Service) → AreFields before → service_violations body (service_over body before) ≡ [] → IsValidService (service_over body before)
+unfolding text_in whole_in
 over_ok body before old none =
     let service = address_over (url_at body) body before in
     let fields : AreFields service = address_ok (url_at body) body before (url_ok body) old in

@@ -1,11 +1,11 @@
 -- The rules between the fields of a body, its base and the rows that it names (Kong Admin API, the
 -- entities' pages and the page of each plugin; the words are this project's own).
-use Rattle.std.specs.Prelude.{ℕ, ◌==◌, Bool, true, false, not, ◌&&◌, ◌||◌, nat_le, List, [], ◌∷◌, ◌++◌, length, Option, Some, None, is_some, is_none, option_map, codes, if◌then◌else◌}
+use Rattle.std.specs.Prelude.{ℕ, ◌==◌, Bool, true, false, not, ◌&&◌, ◌||◌, nat_le, List, [], ◌∷◌, ◌++◌, length, Option, Some, None, is_some, is_none, codes, if◌then◌else◌}
 use Rattle.std.specs.Option.{option_map_or}
 use Rattle.std.specs.Str.{bytes_eq}
 use Rattle.serde_json.specs.Data.{Data}
 use Rattle.serde_json.specs.Find.{as_object, get}
-use Rattle.kg_row_types.specs.PluginNames.{plugin_of, same_plugin}
+use Rattle.kg_row_types.specs.PluginNames.{same_plugin}
 use Rattle.kg_row_types.specs.declared.config.Acl.{Acl}
 use Rattle.kg_row_types.specs.declared.config.Config.{Config}
 use Rattle.kg_row_types.specs.declared.config.Config.TheVariants as config_of
@@ -25,7 +25,7 @@ use Rattle.kg_row_types.specs.declared.plugin.PluginName.{PluginName}
 use Rattle.kg_row_types.specs.declared.plugin.PluginRow.{PluginRow}
 use Rattle.kg_row_types.specs.declared.route.Route.{Route}
 use Rattle.kg_row_types.specs.declared.service.Service.{Service}
-use Rattle.kg_row_making.specs.Bases.{BaseValue, fixed_id, given_word, old_as, route_of, key_of, basic_of, acl_of, plugin_row_of}
+use Rattle.kg_row_making.specs.Bases.{BaseValue, acl_owner, basic_owner, fixed_id, given_word, key_owner, old_as, old_plugin, route_of}
 use Rattle.kg_field_tables.specs.BrokenRules.{violations_in, named_plugin}
 use Rattle.kg_schema.specs.Finished.{row_over}
 use Rattle.kg_field_tables.specs.Judging.{is_set}
@@ -129,18 +129,18 @@ owner_violations links old =
 
 abbrev pub key_violations : BaseValue → Links → KeyCred → List BrokenRule
 key_violations base links credential =
-    owner_violations links (option_map (λ old. old.consumer) (old_as key_of base))
+    owner_violations links (key_owner base)
     ++ violation_if (length credential.key == 0) (codes "key") Required
 
 abbrev pub basic_violations : BaseValue → Links → BasicCred → List BrokenRule
 basic_violations base links credential =
-    owner_violations links (option_map (λ old. old.consumer) (old_as basic_of base))
+    owner_violations links (basic_owner base)
     ++ violation_if (length credential.username == 0) (codes "username") Required
     ++ violation_if (length credential.hash == 0) (codes "password") Required
 
 abbrev pub acl_violations : BaseValue → Links → AclRow → List BrokenRule
 acl_violations base links membership =
-    owner_violations links (option_map (λ old. old.consumer) (old_as acl_of base))
+    owner_violations links (acl_owner base)
     ++ violation_if (length membership.group == 0) (codes "group") Required
 
 -- ---- plugins
@@ -175,10 +175,6 @@ config_violations (config_of.IpRestriction config) = ip_restriction_violations c
 config_violations (config_of.RateLimiting config) = rate_limiting_violations config
 config_violations (config_of.RequestTermination config) = termination_violations config
 config_violations _ = []
-
--- the plugin of the old row
-abbrev pub old_plugin : BaseValue → Option PluginName
-old_plugin base = option_map (λ old. plugin_of old.config) (old_as plugin_row_of base)
 
 -- the violations of the fields of a plugin's config
 abbrev pub config_field_violations : Data → PluginName → List BrokenRule

@@ -6,7 +6,8 @@ ghost use Rattle.std.specs.Str.{bytes_eq};
 ghost use Rattle.serde_json.specs.View.{view};
 ghost use Rattle.kg_row_making.specs.Bases.{base_of, given_word};
 ghost use Rattle.kg_schema.specs.Between.{accepts_word, differ, violations_between, id_violations, is_renamed, parent_text, row_violations, parent_violations, word_violations, word_field};
-ghost use Rattle.kg_schema.specs.Finished.{row_before, row_over, with_set};
+ghost use Rattle.kg_schema.specs.Finished.{row_over, with_set};
+ghost use Rattle.kg_row_making.specs.RowsBefore.{row_before};
 ghost use Rattle.kg_field_rules.specs.Rules.{tell};
 ghost use Rattle.kg_bodies.specs.Violations.{Tells};
 ghost use Rattle.kg_bodies.specs.Settings.{text_at};
@@ -24,13 +25,12 @@ mod tell;
 mod valid;
 
 use crate::row::consumer::{
-    acl_before, basic_before, consumer_before, key_before, set_acl, set_basic, set_consumer,
-    set_key, tell_acl, tell_basic, tell_consumer, tell_key,
+    set_acl, set_basic, set_consumer, set_key, tell_acl, tell_basic, tell_consumer, tell_key,
 };
-use crate::row::plugin::{old_plugin, plugin_before, set_plugin, tell_plugin};
+use crate::row::plugin::{set_plugin, tell_plugin};
 pub use crate::row::read_back::shown_rows_are_read_back;
-use crate::row::route::{route_before, set_route, tell_route};
-use crate::row::service::{service_before, set_service, tell_service};
+use crate::row::route::{set_route, tell_route};
+use crate::row::service::{set_service, tell_service};
 use crate::row::tell::tell_if;
 pub use crate::row::valid::{base_has_id, finished_rows_are_valid, links_are_ids};
 use kg_bodies::fields::named_plugin;
@@ -41,6 +41,7 @@ use kg_field_rules::text_kind::TextKind;
 use kg_field_rules::text_rule::text_rule;
 use kg_field_rules::violations::Violations;
 use kg_row_making::base::{Base, Links, ParentField};
+use kg_row_making::before::row_before;
 use kg_row_types::entity::{Entity, Kind};
 use kg_text::{NoMemory, Text};
 use serde_json::Value;
@@ -153,23 +154,6 @@ fn judge_row(
     Err(FormError::Violation(violations.into_list(alloc)?))
 }
 
-// The row as it stands before the body sets anything.
-fn row_before(alloc: Global, kind: Kind, body: &Value, base: &Base<'_>) -> Result<Entity, NoMemory>
-    ensures before { IfOk result (λ row. row ≡ row_before kind (view body.now) (base_of base.now)) }
-    ensures kind { IfOk result (λ row. kind_of row ≡ kind) }
-{
-    let stamps = base.stamps(body);
-    match kind {
-        Kind::Service => Ok(Entity::Service(service_before(alloc, base, stamps)?)),
-        Kind::Route => Ok(Entity::Route(route_before(alloc, base, stamps)?)),
-        Kind::Consumer => Ok(Entity::Consumer(consumer_before(alloc, base, stamps)?)),
-        Kind::KeyCred => Ok(Entity::KeyCred(key_before(alloc, base, stamps)?)),
-        Kind::BasicCred => Ok(Entity::BasicCred(basic_before(alloc, base, stamps)?)),
-        Kind::Acl => Ok(Entity::Acl(acl_before(alloc, base, stamps)?)),
-        Kind::Plugin => Ok(Entity::Plugin(plugin_before(alloc, base, stamps, body)?)),
-    }
-}
-
 fn set_row(alloc: Global, form: &Form, links: &Links, row: &mut Entity) -> Result<(), NoMemory>
     requires { kind_of row.old ≡ form.now.kind }
     ensures { OnOk result (row.new ≡ with_set (view form.now.body) links.now row.old) }
@@ -215,7 +199,7 @@ fn is_renamed(kind: Kind, body: &Value, base: &Base<'_>) -> bool
 {
     match kind {
         Kind::Plugin => match named_plugin(body) {
-            Some(name) => match old_plugin(base) {
+            Some(name) => match base.old_plugin() {
                 Some(old) => !name.is_same(old),
                 None => false,
             },

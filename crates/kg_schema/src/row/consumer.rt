@@ -1,46 +1,26 @@
 //! The consumers that bodies make, and their credentials.
 
-ghost use Rattle.std.specs.Prelude.{◌≡◌, IfOk, OnOk, fold, option_map};
+ghost use Rattle.std.specs.Prelude.{◌≡◌, OnOk, fold};
 ghost use Rattle.serde_json.specs.View.{view};
 ghost use Rattle.kg_row_types.specs.StoredPassword.{stored_password};
-ghost use Rattle.kg_row_making.specs.Bases.{acl_of, base_of, basic_of, key_of, old_as};
+ghost use Rattle.kg_row_making.specs.Bases.{base_of};
 ghost use Rattle.kg_schema.specs.Between.{acl_violations, basic_violations, consumer_violations, differ, key_violations, owner_violations, same_number};
-ghost use Rattle.kg_schema.specs.Finished.{acl_before, acl_over, basic_before, basic_over, consumer_before, consumer_over, key_before, key_over};
+ghost use Rattle.kg_schema.specs.Finished.{acl_over, basic_over, consumer_over, key_over};
 ghost use Rattle.kg_field_rules.specs.Rules.{tell};
 
 use crate::row::tell::tell_if;
-use kg_bodies::settings::text_at;
+use kg_bodies::by_table::text_in;
 use kg_field_rules::rule::Rule;
-use kg_field_rules::text_kind::TextKind;
 use kg_field_rules::violations::Violations;
-use kg_row_making::base::{Base, Links, Stamps};
+use kg_field_tables::table::Table;
+use kg_row_making::base::{Base, Links};
 use kg_row_making::password::stored_password;
 use kg_row_making::set::{set, set_option};
 use kg_row_types::consumer::{AclRow, BasicCred, Consumer, KeyCred};
 use kg_row_types::id::Id;
-use kg_text::{NoMemory, Text, TryClone};
+use kg_text::NoMemory;
 use serde_json::Value;
 use std::alloc::Global;
-
-/// The old consumer, changed now; or a new one.
-pub fn consumer_before(alloc: Global, base: &Base<'_>, stamps: Stamps) -> Result<Consumer, NoMemory>
-    ensures { IfOk result (λ row. row ≡ consumer_before (base_of base.now) stamps) }
-{
-    match base.consumer() {
-        Some(old) => {
-            let mut row = old.try_clone(alloc)?;
-            row.updated_at = stamps.updated_at;
-            Ok(row)
-        }
-        None => Ok(Consumer {
-            id: stamps.id,
-            username: base.given_text(alloc)?,
-            custom_id: None,
-            created_at: stamps.created_at,
-            updated_at: stamps.updated_at,
-        }),
-    }
-}
 
 /// Sets in a consumer what the body sets.
 pub fn set_consumer(alloc: Global, body: &Value, row: &mut Consumer) -> Result<(), NoMemory>
@@ -48,11 +28,11 @@ pub fn set_consumer(alloc: Global, body: &Value, row: &mut Consumer) -> Result<(
 {
     set_option(
         &mut row.username,
-        text_at(alloc, TextKind::Username, "username", body)?,
+        text_in(alloc, Table::Consumer, "username", body)?,
     );
     set_option(
         &mut row.custom_id,
-        text_at(alloc, TextKind::FreeText, "custom_id", body)?,
+        text_in(alloc, Table::Consumer, "custom_id", body)?,
     );
     Ok(())
 }
@@ -98,48 +78,6 @@ fn is_other(link: Option<Id>, old: Option<Id>) -> bool
     }
 }
 
-fn key_owner(base: &Base<'_>) -> Option<Id>
-    ensures { result ≡ option_map (λ old. old.consumer) (old_as key_of (base_of base.now)) }
-{
-    match base.key() {
-        Some(old) => Some(old.consumer),
-        None => None,
-    }
-}
-
-fn basic_owner(base: &Base<'_>) -> Option<Id>
-    ensures { result ≡ option_map (λ old. old.consumer) (old_as basic_of (base_of base.now)) }
-{
-    match base.basic() {
-        Some(old) => Some(old.consumer),
-        None => None,
-    }
-}
-
-fn acl_owner(base: &Base<'_>) -> Option<Id>
-    ensures { result ≡ option_map (λ old. old.consumer) (old_as acl_of (base_of base.now)) }
-{
-    match base.acl() {
-        Some(old) => Some(old.consumer),
-        None => None,
-    }
-}
-
-/// The old credential, or a new one.
-pub fn key_before(alloc: Global, base: &Base<'_>, stamps: Stamps) -> Result<KeyCred, NoMemory>
-    ensures { IfOk result (λ row. row ≡ key_before (base_of base.now) stamps) }
-{
-    match base.key() {
-        Some(old) => old.try_clone(alloc),
-        None => Ok(KeyCred {
-            id: stamps.id,
-            consumer: stamps.id,
-            key: base.given_or_empty(alloc)?,
-            created_at: stamps.created_at,
-        }),
-    }
-}
-
 /// Sets in a credential what the body sets, and the consumer that it names.
 pub fn set_key(
     alloc: Global,
@@ -150,10 +88,7 @@ pub fn set_key(
     ensures { OnOk result (row.new ≡ key_over (view body.now) links.now row.old) }
 {
     set(&mut row.consumer, links.consumer);
-    set(
-        &mut row.key,
-        text_at(alloc, TextKind::FreeText, "key", body)?,
-    );
+    set(&mut row.key, text_in(alloc, Table::KeyCred, "key", body)?);
     Ok(())
 }
 
@@ -167,7 +102,7 @@ pub fn tell_key(
 ) -> Result<(), NoMemory>
     ensures { OnOk result (violations.new ≡ fold tell violations.old (key_violations (base_of base.now) links.now credential.now)) }
 {
-    tell_owner(alloc, violations, links, key_owner(base))?;
+    tell_owner(alloc, violations, links, base.key_owner())?;
     tell_if(
         alloc,
         violations,
@@ -175,22 +110,6 @@ pub fn tell_key(
         "key",
         Rule::Required,
     )
-}
-
-/// The old credential, or a new one.
-pub fn basic_before(alloc: Global, base: &Base<'_>, stamps: Stamps) -> Result<BasicCred, NoMemory>
-    ensures { IfOk result (λ row. row ≡ basic_before (base_of base.now) stamps) }
-{
-    match base.basic() {
-        Some(old) => old.try_clone(alloc),
-        None => Ok(BasicCred {
-            id: stamps.id,
-            consumer: stamps.id,
-            username: base.given_or_empty(alloc)?,
-            hash: Text::new(alloc),
-            created_at: stamps.created_at,
-        }),
-    }
 }
 
 /// Sets in a credential what the body sets, and the consumer that it names. Of a password only the hash
@@ -206,9 +125,9 @@ pub fn set_basic(
     set(&mut row.consumer, links.consumer);
     set(
         &mut row.username,
-        text_at(alloc, TextKind::FreeText, "username", body)?,
+        text_in(alloc, Table::BasicCred, "username", body)?,
     );
-    match text_at(alloc, TextKind::FreeText, "password", body)? {
+    match text_in(alloc, Table::BasicCred, "password", body)? {
         Some(password) => row.hash = stored_password(alloc, row.consumer, &password)?,
         None => {}
     }
@@ -225,7 +144,7 @@ pub fn tell_basic(
 ) -> Result<(), NoMemory>
     ensures { OnOk result (violations.new ≡ fold tell violations.old (basic_violations (base_of base.now) links.now credential.now)) }
 {
-    tell_owner(alloc, violations, links, basic_owner(base))?;
+    tell_owner(alloc, violations, links, base.basic_owner())?;
     tell_if(
         alloc,
         violations,
@@ -242,30 +161,12 @@ pub fn tell_basic(
     )
 }
 
-/// The old membership, or a new one.
-pub fn acl_before(alloc: Global, base: &Base<'_>, stamps: Stamps) -> Result<AclRow, NoMemory>
-    ensures { IfOk result (λ row. row ≡ acl_before (base_of base.now) stamps) }
-{
-    match base.acl() {
-        Some(old) => old.try_clone(alloc),
-        None => Ok(AclRow {
-            id: stamps.id,
-            consumer: stamps.id,
-            group: base.given_or_empty(alloc)?,
-            created_at: stamps.created_at,
-        }),
-    }
-}
-
 /// Sets in a membership what the body sets, and the consumer that it names.
 pub fn set_acl(alloc: Global, body: &Value, links: &Links, row: &mut AclRow) -> Result<(), NoMemory>
     ensures { OnOk result (row.new ≡ acl_over (view body.now) links.now row.old) }
 {
     set(&mut row.consumer, links.consumer);
-    set(
-        &mut row.group,
-        text_at(alloc, TextKind::FreeText, "group", body)?,
-    );
+    set(&mut row.group, text_in(alloc, Table::Acl, "group", body)?);
     Ok(())
 }
 
@@ -279,7 +180,7 @@ pub fn tell_acl(
 ) -> Result<(), NoMemory>
     ensures { OnOk result (violations.new ≡ fold tell violations.old (acl_violations (base_of base.now) links.now membership.now)) }
 {
-    tell_owner(alloc, violations, links, acl_owner(base))?;
+    tell_owner(alloc, violations, links, base.acl_owner())?;
     tell_if(
         alloc,
         violations,

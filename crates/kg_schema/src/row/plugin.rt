@@ -1,11 +1,11 @@
 //! The plugins that bodies make.
 
-ghost use Rattle.std.specs.Prelude.{◌≡◌, IfOk, OnOk, codes, fold};
+ghost use Rattle.std.specs.Prelude.{◌≡◌, OnOk, codes, fold};
 ghost use Rattle.serde_json.specs.View.{view};
 ghost use Rattle.kg_row_types.specs.ValidRows.{is_for_no_consumer};
 ghost use Rattle.kg_row_making.specs.Bases.{base_of};
-ghost use Rattle.kg_schema.specs.Between.{config_violations, groups_violations, has_both, has_neither, ip_restriction_violations, known_plugin_violations, config_field_violations, old_plugin, plugin_violations, rate_limiting_violations, termination_violations, unnamed_config_violations};
-ghost use Rattle.kg_schema.specs.Finished.{plugin_before, plugin_over, scope_over};
+ghost use Rattle.kg_schema.specs.Between.{config_violations, groups_violations, has_both, has_neither, ip_restriction_violations, known_plugin_violations, config_field_violations, plugin_violations, rate_limiting_violations, termination_violations, unnamed_config_violations};
+ghost use Rattle.kg_schema.specs.Finished.{plugin_over, scope_over};
 ghost use Rattle.kg_field_rules.specs.Rules.{tell};
 ghost use Rattle.kg_bodies.specs.Settings.{inside};
 
@@ -15,41 +15,15 @@ use kg_bodies::settings::flag_at;
 use kg_field_rules::rule::Rule;
 use kg_field_rules::violations::Violations;
 use kg_field_tables::table::Table;
-use kg_row_making::base::{Base, Links, Stamps};
+use kg_row_making::base::{Base, Links};
 use kg_row_making::config::set_config;
-use kg_row_making::defaults::default_config;
 use kg_row_making::member::member_or;
 use kg_row_making::set::set;
 use kg_row_types::config::{Acl, Config, IpRestriction, RateLimiting, Termination};
 use kg_row_types::plugin::{PluginName, PluginRow, Scope};
-use kg_text::{List, NoMemory, Text, TryClone};
+use kg_text::{List, NoMemory, Text};
 use serde_json::Value;
 use std::alloc::Global;
-
-/// The old plugin, or a new one with the config that its name has by default.
-pub fn plugin_before(
-    alloc: Global,
-    base: &Base<'_>,
-    stamps: Stamps,
-    body: &Value,
-) -> Result<PluginRow, NoMemory>
-    ensures { IfOk result (λ row. row ≡ plugin_before (base_of base.now) stamps (view body.now)) }
-{
-    match base.plugin() {
-        Some(old) => old.try_clone(alloc),
-        None => Ok(PluginRow {
-            id: stamps.id,
-            scope: Scope {
-                service: None,
-                route: None,
-                consumer: None,
-            },
-            enabled: true,
-            config: default_config(alloc, named_plugin(body).unwrap_or(PluginName::Cors))?,
-            created_at: stamps.created_at,
-        }),
-    }
-}
 
 /// Sets in a plugin what the body sets, and the rows that it names.
 pub fn set_plugin(
@@ -76,16 +50,6 @@ fn scope_over(links: &Links, before: Scope) -> Scope
     }
 }
 
-/// The plugin of the old row.
-pub fn old_plugin(base: &Base<'_>) -> Option<PluginName>
-    ensures { result ≡ old_plugin (base_of base.now) }
-{
-    match base.plugin() {
-        Some(old) => Some(old.config.name()),
-        None => None,
-    }
-}
-
 /// Tells the rules between the fields of a plugin, and those of a config whose fields had to wait for
 /// the old row's name.
 pub fn tell_plugin(
@@ -98,7 +62,7 @@ pub fn tell_plugin(
     ensures { OnOk result (violations.new ≡ fold tell violations.old (plugin_violations (view body.now) (base_of base.now) plugin.now)) }
 {
     tell_unnamed_config(alloc, violations, body, base)?;
-    if named_plugin(body).is_none() && old_plugin(base).is_none() {
+    if named_plugin(body).is_none() && base.old_plugin().is_none() {
         tell_if(alloc, violations, true, "name", Rule::Required)
     } else {
         tell_known(alloc, violations, plugin)
@@ -115,7 +79,7 @@ fn tell_unnamed_config(
 {
     match named_plugin(body) {
         Some(_) => Ok(()),
-        None => match old_plugin(base) {
+        None => match base.old_plugin() {
             Some(name) => tell_config_fields(alloc, violations, body, name),
             None => Ok(()),
         },

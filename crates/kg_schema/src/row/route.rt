@@ -1,54 +1,27 @@
 //! The routes that bodies make.
 
-ghost use Rattle.std.specs.Prelude.{◌≡◌, [], IfOk, OnOk, fold};
+ghost use Rattle.std.specs.Prelude.{◌≡◌, [], OnOk, fold};
 ghost use Rattle.serde_json.specs.View.{view};
 ghost use Rattle.kg_row_making.specs.Bases.{base_of};
 ghost use Rattle.kg_schema.specs.Between.{fits_nothing, route_violations};
-ghost use Rattle.kg_schema.specs.Finished.{route_before, route_over};
+ghost use Rattle.kg_schema.specs.Finished.{route_over};
 ghost use Rattle.kg_field_rules.specs.Rules.{tell};
 ghost use Rattle.kg_field_tables.specs.BrokenRules.{field_violations};
 ghost use Rattle.kg_row_types.specs.declared.entity.Kind.TheVariants as kind;
 
 use crate::row::tell::{is_missing, tell_if};
+use kg_bodies::by_table::{integer_in, paths_at, text_in, texts_in};
 use kg_bodies::header_tests::tests_at;
-use kg_bodies::settings::{flag_at, https_at, integer_at, paths_at, text_at, texts_at};
+use kg_bodies::settings::{flag_at, https_at};
 use kg_field_rules::rule::Rule;
-use kg_field_rules::text_kind::TextKind;
 use kg_field_rules::violations::Violations;
-use kg_row_making::base::{Base, Links, Stamps};
+use kg_field_tables::table::Table;
+use kg_row_making::base::{Base, Links};
 use kg_row_making::set::{narrow_signed, set, set_list, set_option};
 use kg_row_types::route::Route;
-use kg_text::{List, NoMemory, TryClone};
+use kg_text::NoMemory;
 use serde_json::Value;
 use std::alloc::Global;
-
-/// The old route, changed now; or a new one with the defaults.
-pub fn route_before(alloc: Global, base: &Base<'_>, stamps: Stamps) -> Result<Route, NoMemory>
-    ensures { IfOk result (λ row. row ≡ route_before (base_of base.now) stamps) }
-{
-    match base.route() {
-        Some(old) => {
-            let mut row = old.try_clone(alloc)?;
-            row.updated_at = stamps.updated_at;
-            Ok(row)
-        }
-        None => Ok(Route {
-            id: stamps.id,
-            name: base.given_text(alloc)?,
-            service: stamps.id,
-            https: true,
-            methods: List::new(alloc),
-            hosts: List::new(alloc),
-            paths: List::new(alloc),
-            headers: List::new(alloc),
-            regex_priority: 0,
-            strip_path: true,
-            preserve_host: false,
-            created_at: stamps.created_at,
-            updated_at: stamps.updated_at,
-        }),
-    }
-}
 
 /// Sets in a route what the body sets, and the service that it names.
 pub fn set_route(
@@ -60,22 +33,22 @@ pub fn set_route(
     requires { field_violations kind.Route (view body.now) ≡ [] }
     ensures { OnOk result (row.new ≡ route_over (view body.now) links.now row.old) }
 {
-    set_option(&mut row.name, text_at(alloc, TextKind::Name, "name", body)?);
+    set_option(&mut row.name, text_in(alloc, Table::Route, "name", body)?);
     set(&mut row.service, links.service);
     set(&mut row.https, https_at(alloc, body)?);
     set_list(
         &mut row.methods,
-        texts_at(alloc, TextKind::Method, "methods", body)?,
+        texts_in(alloc, Table::Route, "methods", body)?,
     );
     set_list(
         &mut row.hosts,
-        texts_at(alloc, TextKind::RouteHost, "hosts", body)?,
+        texts_in(alloc, Table::Route, "hosts", body)?,
     );
     set_list(&mut row.paths, paths_at(alloc, body)?);
     set_list(&mut row.headers, tests_at(alloc, body)?);
     set(
         &mut row.regex_priority,
-        narrow_signed(integer_at(alloc, -1000000, 1000000, "regex_priority", body)?),
+        narrow_signed(integer_in(alloc, Table::Route, "regex_priority", body)?),
     );
     set(&mut row.strip_path, flag_at("strip_path", body));
     set(&mut row.preserve_host, flag_at("preserve_host", body));

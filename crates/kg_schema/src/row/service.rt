@@ -1,59 +1,34 @@
 //! The services that bodies make.
 
-ghost use Rattle.std.specs.Prelude.{◌≡◌, IfOk, None, OnOk, fold};
+ghost use Rattle.std.specs.Prelude.{◌≡◌, None, OnOk, fold};
 ghost use Rattle.serde_json.specs.View.{view};
-ghost use Rattle.kg_row_making.specs.Bases.{base_of};
 ghost use Rattle.kg_schema.specs.Between.{doubles_url, service_violations};
-ghost use Rattle.kg_schema.specs.Finished.{address_over, service_before, service_over};
+ghost use Rattle.kg_schema.specs.Finished.{address_over, service_over};
 ghost use Rattle.kg_field_rules.specs.Rules.{tell};
 ghost use Rattle.kg_bodies.specs.Settings.{url_at};
 
 use crate::row::member::is_set_at;
 use crate::row::tell::tell_if;
-use kg_bodies::settings::{flag_at, text_at, url_at, whole_at};
+use kg_bodies::by_table::{text_in, whole_in};
+use kg_bodies::settings::{flag_at, url_at};
 use kg_field_rules::rule::Rule;
-use kg_field_rules::text_kind::TextKind;
 use kg_field_rules::violations::Violations;
-use kg_row_making::base::{Base, Stamps};
+use kg_field_tables::table::Table;
 use kg_row_making::set::{narrow, set, set_option};
 use kg_row_types::service::Service;
-use kg_text::{NoMemory, Text, TryClone};
+use kg_text::NoMemory;
 use serde_json::Value;
 use std::alloc::Global;
-
-/// The old service, changed now; or a new one with the defaults.
-pub fn service_before(alloc: Global, base: &Base<'_>, stamps: Stamps) -> Result<Service, NoMemory>
-    ensures { IfOk result (λ row. row ≡ service_before (base_of base.now) stamps) }
-{
-    match base.service() {
-        Some(old) => {
-            let mut row = old.try_clone(alloc)?;
-            row.updated_at = stamps.updated_at;
-            Ok(row)
-        }
-        None => Ok(Service {
-            id: stamps.id,
-            name: base.given_text(alloc)?,
-            host: Text::new(alloc),
-            port: 80,
-            path: None,
-            retries: 5,
-            enabled: true,
-            created_at: stamps.created_at,
-            updated_at: stamps.updated_at,
-        }),
-    }
-}
 
 /// Sets in a service what the body sets.
 pub fn set_service(alloc: Global, body: &Value, row: &mut Service) -> Result<(), NoMemory>
     ensures { OnOk result (row.new ≡ service_over (view body.now) row.old) }
 {
     set_address(alloc, body, row)?;
-    set_option(&mut row.name, text_at(alloc, TextKind::Name, "name", body)?);
+    set_option(&mut row.name, text_in(alloc, Table::Service, "name", body)?);
     set(
         &mut row.retries,
-        narrow(whole_at(alloc, 0, 32767, "retries", body)?),
+        narrow(whole_in(alloc, Table::Service, "retries", body)?),
     );
     set(&mut row.enabled, flag_at("enabled", body));
     Ok(())
@@ -77,12 +52,12 @@ fn set_address(alloc: Global, body: &Value, row: &mut Service) -> Result<(), NoM
 fn set_parts(alloc: Global, body: &Value, row: &mut Service) -> Result<(), NoMemory>
     ensures { OnOk result (row.new ≡ address_over None (view body.now) row.old) }
 {
-    set(&mut row.host, text_at(alloc, TextKind::Host, "host", body)?);
+    set(&mut row.host, text_in(alloc, Table::Service, "host", body)?);
     set(
         &mut row.port,
-        narrow(whole_at(alloc, 1, 65535, "port", body)?),
+        narrow(whole_in(alloc, Table::Service, "port", body)?),
     );
-    set_option(&mut row.path, text_at(alloc, TextKind::Path, "path", body)?);
+    set_option(&mut row.path, text_in(alloc, Table::Service, "path", body)?);
     Ok(())
 }
 
