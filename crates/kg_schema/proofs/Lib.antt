@@ -1,6 +1,11 @@
+mod ReadBackConfigs
 mod ReadBackConsumers
 mod ReadBackCredentials
+mod ReadBackHeaders
+mod ReadBackLists
 mod ReadBackParts
+mod ReadBackPlugins
+mod ReadBackRoutes
 mod ReadBackServices
 mod ReadHeaders
 mod ReadNumbers

@@ -2,8 +2,8 @@
 
 ghost use Rattle.kg_schema.specs.ReadBack.{ReadsBackRows};
 
-/// A valid service, consumer, key or membership, as it is shown, breaks no rule of a field, and its body
-/// makes the row again: a law, for proofs.
+/// A valid row, as it is shown, breaks no rule of a field, and its body makes the row again, but for what is
+/// stored of a password: a law, for proofs.
 pub fn shown_rows_are_read_back()
     ensures { ReadsBackRows }
 {}
