@@ -3,7 +3,7 @@ use Rattle.std.proofs.Common.{◌≡◌, ℕ, ◌<◌, ◌≤◌, Bool, true, fa
 use Rattle.std.proofs.lemmas.Map.Keys.{IsDistinct-head, IsDistinct-tail}
 use Rattle.std.specs.List.{AllByRecursion, IsDistinct}
 use Rattle.kg_tables.proofs.TableLemmas.{flipped}
-use Rattle.kg_tables.proofs.TextIndexLemmas.{same_number}
+use Rattle.kg_tables.proofs.KeyIndexLemmas.{same_number}
 
 module _ {T : Type 0} (test : T → Bool) where
   abbrev pub first : List T → Option T

@@ -3,7 +3,8 @@ mod IdLemmas
 mod ListedLemmas
 mod PairLemmas
 mod PlaceLemmas
+mod PluginKeyLemmas
 pub mod SetLemmas
 mod TableLemmas
-mod TextIndexLemmas
+mod KeyIndexLemmas
 mod WalkLemmas

@@ -12,7 +12,7 @@ use Rattle.std.proofs.lemmas.List.Kept.{IsStrictlySortedBy-filter}
 use Rattle.kg_tables.specs.PlaceIndexes.{HasPlaces, is_listed, pair_cmp}
 use Rattle.kg_tables.specs.declared.listing.PlaceIndex.{PlaceIndex}
 use Rattle.kg_row_types.specs.RowChanges.{refers_to}
-use Rattle.kg_tables.proofs.TextIndexLemmas.{same_number}
+use Rattle.kg_tables.proofs.KeyIndexLemmas.{same_number}
 
 -- a number compares as equal to itself
 pub itself : (n : ℕ) → nat_cmp n n ≡ Equal

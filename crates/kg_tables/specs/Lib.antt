@@ -2,6 +2,7 @@ pub mod IdOrder
 pub mod InOrder
 pub mod Others
 pub mod PlaceIndexes
+pub mod PluginKeys
 pub mod References
-pub mod TextIndexes
+pub mod KeyIndexes
 pub mod Walks

@@ -1,6 +1,6 @@
 //! The rows of one kind, found also by each text that only one of them should have.
 
-ghost use Rattle.std.specs.Prelude.{◌≡◌, [], ◌∷◌, ◌++◌, ◌==◌, ◌&&◌, false, None, IfOk, OnOk, OnErr, find, filter, not, if◌then◌else◌};
+ghost use Rattle.std.specs.Prelude.{◌≡◌, [], ◌∷◌, ◌++◌, ◌==◌, ◌&&◌, false, IfOk, OnOk, OnErr, find, filter, not};
 ghost use Rattle.std.specs.Option.{option_copied};
 ghost use Rattle.std.specs.List.{list_any};
 ghost use Rattle.kg_row_types.specs.Lookups.{is_text};
@@ -8,9 +8,9 @@ ghost use Rattle.kg_row_types.specs.Tables.{replaced};
 ghost use Rattle.kg_tables.specs.Others.{is_other};
 ghost use Rattle.kg_tables.specs.References.{refers};
 
+use crate::key_index::{Holder, KeyIndex};
 use crate::row::{Named, is_other};
 use crate::table::RowTable;
-use crate::text_index::{Holder, TextIndex};
 use kg_row_types::entity::Kind;
 use kg_row_types::id::Id;
 use kg_text::{NoMemory, Text, TryClone};
@@ -22,14 +22,16 @@ use std::marker::Model;
 #[derive(Drop)]
 pub struct NamedTable<T: Named> {
     table: RowTable<T>,
-    names: TextIndex,
-    aliases: TextIndex,
+    names: KeyIndex<Text>,
+    aliases: KeyIndex<Text>,
 }
 
 impl<T: Named> Model for NamedTable<T> {
     ghost use Rattle.std.specs.Prelude.{List};
     ghost use Rattle.std.specs.Coded.{coded_list};
-    ghost use Rattle.kg_tables.specs.TextIndexes.{IsIndex, holder_of};
+    ghost use Rattle.std.specs.Str.{bytes_eq};
+    ghost use Rattle.kg_row_types.specs.Lookups.{is_text};
+    ghost use Rattle.kg_tables.specs.KeyIndexes.{IsIndex, holder_of};
 
     ghost Value = { List T };
 
@@ -37,7 +39,7 @@ impl<T: Named> Model for NamedTable<T> {
 
     ghost view = { λ rows. rows.table };
 
-    ghost invariant = { λ rows. IsIndex T.number T.name (holder_of rows.names) rows.table × IsIndex T.number T.alias (holder_of rows.aliases) rows.table };
+    ghost invariant = { λ rows. IsIndex T.number (λ text row. is_text text (T.name row)) (holder_of bytes_eq rows.names) rows.table × IsIndex T.number (λ text row. is_text text (T.alias row)) (holder_of bytes_eq rows.aliases) rows.table };
 }
 
 impl<T: Named> NamedTable<T> {
@@ -47,8 +49,8 @@ impl<T: Named> NamedTable<T> {
     {
         NamedTable {
             table: RowTable::new(alloc),
-            names: TextIndex::new(alloc),
-            aliases: TextIndex::new(alloc),
+            names: KeyIndex::new(alloc),
+            aliases: KeyIndex::new(alloc),
         }
     }
 
@@ -78,7 +80,7 @@ impl<T: Named> NamedTable<T> {
         ensures { option_copied result ≡ find (λ row. is_other except (T.number row) && is_text text.now (T.name row)) self.now }
     {
         match self.names.holder(text)? {
-            Holder::Only(id) => self.other(except, id),
+            Holder::Only(id) => self.table.other(except, id),
             Holder::Several => self
                 .table
                 .walk()
@@ -91,22 +93,12 @@ impl<T: Named> NamedTable<T> {
         ensures { option_copied result ≡ find (λ row. is_other except (T.number row) && is_text text.now (T.alias row)) self.now }
     {
         match self.aliases.holder(text)? {
-            Holder::Only(id) => self.other(except, id),
+            Holder::Only(id) => self.table.other(except, id),
             Holder::Several => self
                 .table
                 .walk()
                 .find(|row| is_other(except, row.id()) && is(row.alias(), text)),
         }
-    }
-
-    // The row with an id, unless it is the one that is left out.
-    fn other(&self, except: Option<Id>, id: Id) -> Option<&T>
-        ensures { option_copied result ≡ (if is_other except id then find (λ row. T.number row == id) self.now else None) }
-    {
-        if is_other(except, id) {
-            return self.table.get(id);
-        }
-        None
     }
 
     /// Adds a row at the end.

@@ -1,10 +1,11 @@
 //! The rows of one kind, found by id and by what they name.
 
-ghost use Rattle.std.specs.Prelude.{◌≡◌, [], ◌∷◌, ◌++◌, ◌==◌, ◌<◌, false, IfNone, IfOk, IfSome, OnOk, OnErr, find, filter, length, map, nat_eq, not, option_map, take};
+ghost use Rattle.std.specs.Prelude.{◌≡◌, [], ◌∷◌, ◌++◌, ◌==◌, ◌<◌, false, IfNone, IfOk, IfSome, OnOk, OnErr, find, filter, length, map, nat_eq, not, option_map, take, None, if◌then◌else◌};
 ghost use Rattle.std.specs.Option.{option_copied, option_to_list};
 ghost use Rattle.std.specs.List.{list_any, IsDistinct};
 ghost use Rattle.kg_row_types.specs.Tables.{replaced};
 ghost use Rattle.kg_tables.specs.IdOrder.{ids_above};
+ghost use Rattle.kg_tables.specs.Others.{is_other};
 ghost use Rattle.kg_tables.specs.PlaceIndexes.{start_of};
 ghost use Rattle.kg_tables.specs.References.{refers};
 ghost use Rattle.std.specs.BTreeMap.Range.{entries_between};
@@ -14,7 +15,7 @@ ghost use Rattle.std.specs.Ordering.{nat_cmp};
 ghost use Rattle.std.specs.declared.ops.Bound.TheVariants.{Unbounded};
 
 use crate::listing::Listing;
-use crate::row::{Row, no_references};
+use crate::row::{Row, is_other, no_references};
 use crate::walk::{ListedRows, Steps, Walk};
 use kg_row_types::entity::Kind;
 use kg_row_types::id::Id;
@@ -93,6 +94,16 @@ impl<T: Row> RowTable<T> {
         ensures { result ≡ list_any (λ row. T.number row == id) self.now }
     {
         self.places.contains_key(&id)
+    }
+
+    /// The row with this id, unless it is the one that is left out.
+    pub(crate) fn other(&self, except: Option<Id>, id: Id) -> Option<&T>
+        ensures { option_copied result ≡ (if is_other except id then find (λ row. T.number row == id) self.now else None) }
+    {
+        if is_other(except, id) {
+            return self.get(id);
+        }
+        None
     }
 
     /// All rows.

@@ -5,7 +5,7 @@ use Rattle.std.specs.Map.{keys_of, values_of}
 use Rattle.kg_row_types.specs.declared.entity.Kind.{Kind}
 use Rattle.kg_tables.proofs.PlaceLemmas.{at_place, elsewhere, is_there, no_place, row_there, table_left, taken}
 use Rattle.kg_tables.proofs.TableLemmas.{values-filter}
-use Rattle.kg_tables.proofs.TextIndexLemmas.{all_left}
+use Rattle.kg_tables.proofs.KeyIndexLemmas.{all_left}
 use Rattle.kg_tables.specs.PlaceIndexes.{IsTable, listed_in}
 use Rattle.kg_tables.specs.References.{refers}
 use Rattle.kg_tables.proofs.table.RowTable.remove.Goals as goal

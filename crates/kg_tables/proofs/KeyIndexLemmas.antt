@@ -1,4 +1,4 @@
--- What an index says of texts stays so when rows come, change and go.
+-- What an index says of keys stays so when rows come, change and go.
 use Rattle.std.proofs.Common.{◌≡◌, ℕ, Bool, true, false, cond, not, ◌||◌, ◌&&◌, nat_eq, List, [], ◌∷◌, ◌++◌, Option, Some, None, map, filter, find, All, refl, sym, ap, subst, ◌∙◌, inl, inr, ◌⊎◌, ⊎_elim, true≢false, is_some, unwrap_or}
 use Rattle.std.proofs.lemmas.Bool.{eqb-true}
 use Rattle.std.proofs.lemmas.Bool.Decides.{eqb_tells}
@@ -8,13 +8,12 @@ use Rattle.std.proofs.lemmas.Map.Entries.{option_filter}
 use Rattle.std.proofs.lemmas.Map.Keys.{IsDistinct-head, IsDistinct-tail}
 use Rattle.std.specs.List.{list_any, AllByRecursion, IsDistinct}
 use Rattle.kg_tables.proofs.TableLemmas.{flipped}
-use Rattle.kg_row_types.specs.Lookups.{is_text}
 use Rattle.kg_row_types.specs.Tables.{replaced}
 use Rattle.std.specs.Prelude.{if◌then◌else◌}
 use Rattle.kg_tables.specs.Others.{is_other}
-use Rattle.kg_tables.specs.TextIndexes.{Tells, IsIndex, noted, forgotten, is_only, is_kept, kept}
-use Rattle.kg_tables.specs.declared.text_index.Holder.{Holder}
-use Rattle.kg_tables.specs.declared.text_index.Holder.TheVariants.{Only, Several}
+use Rattle.kg_tables.specs.KeyIndexes.{Tells, IsIndex, is_key, noted, forgotten, is_only, is_kept, kept}
+use Rattle.kg_tables.specs.declared.key_index.Holder.{Holder}
+use Rattle.kg_tables.specs.declared.key_index.Holder.TheVariants.{Only, Several}
 
 pub same_number : (n : ℕ) → nat_eq n n ≡ true
 same_number n = ⊎_elim (λ yes. yes.0) (λ no. absurd (no.1 refl)) (eqb_tells n n)
@@ -23,7 +22,7 @@ pub filter-kept : (test : Holder → Bool) (holder : Option Holder) → option_f
 filter-kept test None = refl
 filter-kept test (Some holder) = refl
 
--- ---- one text
+-- ---- one key
 
 -- of a row with another id
 noted_other : (holder : Option Holder) (id n : ℕ) (new has : Bool) → Tells holder n has → nat_eq n id ≡ false → Tells (noted new id holder) n has
@@ -90,14 +89,14 @@ forgotten_names (Some (Only holder)) id a true is =
       | false ↦ λ same. same
     ]) is
 
--- the same change of the same text
-pub noted_alike : (text : List ℕ) {set other : Option (List ℕ)} {id n : ℕ} {holder h : Option Holder} → set ≡ other → id ≡ n → holder ≡ h → noted (is_text text set) id holder ≡ noted (is_text text other) n h
-noted_alike text {set} {other} {id} {n} {holder} {h} sets ids holders =
-    ap (λ s. noted (is_text text s) id holder) sets ∙ ap (λ k. noted (is_text text other) k holder) ids ∙ ap (noted (is_text text other) n) holders
+-- the same change of the same key
+pub noted_alike : {K : Type 0} (eq : K → K → Bool) (key : K) {set other : Option K} {id n : ℕ} {holder h : Option Holder} → set ≡ other → id ≡ n → holder ≡ h → noted (is_key eq key set) id holder ≡ noted (is_key eq key other) n h
+noted_alike eq key {set} {other} {id} {n} {holder} {h} sets ids holders =
+    ap (λ s. noted (is_key eq key s) id holder) sets ∙ ap (λ k. noted (is_key eq key other) k holder) ids ∙ ap (noted (is_key eq key other) n) holders
 
-pub forgotten_alike : (text : List ℕ) {set other : Option (List ℕ)} {id n : ℕ} {holder h : Option Holder} → set ≡ other → id ≡ n → holder ≡ h → forgotten (is_text text set) id holder ≡ forgotten (is_text text other) n h
-forgotten_alike text {set} {other} {id} {n} {holder} {h} sets ids holders =
-    ap (λ s. forgotten (is_text text s) id holder) sets ∙ ap (λ k. forgotten (is_text text other) k holder) ids ∙ ap (forgotten (is_text text other) n) holders
+pub forgotten_alike : {K : Type 0} (eq : K → K → Bool) (key : K) {set other : Option K} {id n : ℕ} {holder h : Option Holder} → set ≡ other → id ≡ n → holder ≡ h → forgotten (is_key eq key set) id holder ≡ forgotten (is_key eq key other) n h
+forgotten_alike eq key {set} {other} {id} {n} {holder} {h} sets ids holders =
+    ap (λ s. forgotten (is_key eq key s) id holder) sets ∙ ap (λ k. forgotten (is_key eq key other) k holder) ids ∙ ap (forgotten (is_key eq key other) n) holders
 
 -- ---- the rows
 
@@ -207,57 +206,57 @@ module _ {T : Type 0} (number : T → ℕ) where
 
 -- ---- the index
 
-module _ {T : Type 0} (number : T → ℕ) (text_of : T → Option (List ℕ)) where
-  -- what the index says of a text is so for this row
-  abbrev Says : (List ℕ → Option Holder) → List ℕ → T → Type 0
-  Says holder text row = Tells (holder text) (number row) (is_text text (text_of row))
+module _ {K T : Type 0} (number : T → ℕ) (has : K → T → Bool) where
+  -- what the index says of a key is so for this row
+  abbrev Says : (K → Option Holder) → K → T → Type 0
+  Says holder key row = Tells (holder key) (number row) (has key row)
 
-  -- no text, no row
-  pub index_new : (holder : List ℕ → Option Holder) → ((text : List ℕ) → holder text ≡ None) → IsIndex number text_of holder []
+  -- no key, no row
+  pub index_new : (holder : K → Option Holder) → ((key : K) → holder key ≡ None) → IsIndex number has holder []
   index_new holder none = record {
-    tells = λ text. All-nil (Says holder text);
-    there = λ text id is. absurd (true≢false (sym (ap is_one (sym (none text) ∙ is))));
+    tells = λ key. All-nil (Says holder key);
+    there = λ key id is. absurd (true≢false (sym (ap is_one (sym (none key) ∙ is))));
   }
 
   -- the same holders
-  pub index_same : (before now : List ℕ → Option Holder) (rows : List T) → ((text : List ℕ) → now text ≡ before text) → IsIndex number text_of before rows → IsIndex number text_of now rows
+  pub index_same : (before now : K → Option Holder) (rows : List T) → ((key : K) → now key ≡ before key) → IsIndex number has before rows → IsIndex number has now rows
   index_same before now rows same index = record {
-    tells = λ text. subst (λ h. All (λ row. Tells h (number row) (is_text text (text_of row))) rows) (sym (same text)) (index.tells text);
-    there = λ text id is. index.there text id (sym (same text) ∙ is);
+    tells = λ key. subst (λ h. All (λ row. Tells h (number row) (has key row)) rows) (sym (same key)) (index.tells key);
+    there = λ key id is. index.there key id (sym (same key) ∙ is);
   }
 
   -- an id that no row has isn't named
-  unnamed : (holder : List ℕ → Option Holder) (rows : List T) (id : ℕ) → IsIndex number text_of holder rows → list_any (has_id number id) rows ≡ false → (text : List ℕ) → is_only id (holder text) ≡ false
-  unnamed holder rows id index free text = by (holder text) refl
+  unnamed : (holder : K → Option Holder) (rows : List T) (id : ℕ) → IsIndex number has holder rows → list_any (has_id number id) rows ≡ false → (key : K) → is_only id (holder key) ≡ false
+  unnamed holder rows id index free key = by (holder key) refl
     where
-      by : (h : Option Holder) → holder text ≡ h → is_only id h ≡ false
+      by : (h : Option Holder) → holder key ≡ h → is_only id h ≡ false
       by None is = refl
       by (Some Several) is = refl
       by (Some (Only a)) is =
           (elim (nat_eq id a) as (λ b. nat_eq id a ≡ b → b ≡ false) [
-            | true ↦ λ same. absurd (true≢false (sym (subst (λ k. list_any (has_id number k) rows ≡ true) (sym (eqb-true id a same)) (index.there text a is)) ∙ free))
+            | true ↦ λ same. absurd (true≢false (sym (subst (λ k. list_any (has_id number k) rows ≡ true) (sym (eqb-true id a same)) (index.there key a is)) ∙ free))
             | false ↦ λ _. refl
           ]) refl
 
   -- the same after a row was noted, and after another was forgotten
-  abbrev Noted : (List ℕ → Option Holder) → T → List ℕ → T → Type 0
-  Noted holder new text row = Tells (noted (is_text text (text_of new)) (number new) (holder text)) (number row) (is_text text (text_of row))
+  abbrev Noted : (K → Option Holder) → T → K → T → Type 0
+  Noted holder new key row = Tells (noted (has key new) (number new) (holder key)) (number row) (has key row)
 
-  abbrev less : (List ℕ → Option Holder) → T → ℕ → List ℕ → Option Holder
-  less holder old id text = forgotten (is_text text (text_of old)) id (holder text)
+  abbrev less : (K → Option Holder) → T → ℕ → K → Option Holder
+  less holder old id key = forgotten (has key old) id (holder key)
 
   -- a row with a new id comes last
-  pub index_push : (before now : List ℕ → Option Holder) (new : T) (rows : List T) → ((text : List ℕ) → now text ≡ noted (is_text text (text_of new)) (number new) (before text))
-      → list_any (has_id number (number new)) rows ≡ false → IsIndex number text_of before rows → IsIndex number text_of now (rows ++ new ∷ [])
+  pub index_push : (before now : K → Option Holder) (new : T) (rows : List T) → ((key : K) → now key ≡ noted (has key new) (number new) (before key))
+      → list_any (has_id number (number new)) rows ≡ false → IsIndex number has before rows → IsIndex number has now (rows ++ new ∷ [])
   index_push before now new rows says free index = record {
-    tells = λ text. subst (λ h. All (λ row. Tells h (number row) (is_text text (text_of row))) (rows ++ new ∷ [])) (sym (says text))
-        (All-push (Noted before new text) rows new
-        (others_of_none number (Says before text) (Noted before new text) (number new) (λ row tells other. noted_other (before text) (number new) (number row) (is_text text (text_of new)) (is_text text (text_of row)) tells other) rows (index.tells text) free)
-        (noted_itself (before text) (number new) (is_text text (text_of new)) (unnamed before rows (number new) index free text)));
-    there = λ text a is. list_any-append (has_id number a) rows (new ∷ [])
-        ∙ ⊎_elim (λ was. ap (λ b. b || list_any (has_id number a) (new ∷ [])) (index.there text a was))
+    tells = λ key. subst (λ h. All (λ row. Tells h (number row) (has key row)) (rows ++ new ∷ [])) (sym (says key))
+        (All-push (Noted before new key) rows new
+        (others_of_none number (Says before key) (Noted before new key) (number new) (λ row tells other. noted_other (before key) (number new) (number row) (has key new) (has key row) tells other) rows (index.tells key) free)
+        (noted_itself (before key) (number new) (has key new) (unnamed before rows (number new) index free key)));
+    there = λ key a is. list_any-append (has_id number a) rows (new ∷ [])
+        ∙ ⊎_elim (λ was. ap (λ b. b || list_any (has_id number a) (new ∷ [])) (index.there key a was))
         (λ same. ap (λ b. list_any (has_id number a) rows || (b || false)) (ap (λ k. nat_eq (number new) k) (sym same) ∙ same_number (number new)) ∙ or_true (list_any (has_id number a) rows))
-        (noted_names (before text) (number new) a (is_text text (text_of new)) (sym (says text) ∙ is));
+        (noted_names (before key) (number new) a (has key new) (sym (says key) ∙ is));
   }
     where
       or_true : (b : Bool) → (b || (true || false)) ≡ true
@@ -265,96 +264,96 @@ module _ {T : Type 0} (number : T → ℕ) (text_of : T → Option (List ℕ)) w
       or_true false = refl
 
   -- a row in the place of the one with its id
-  pub index_replaced : (before now : List ℕ → Option Holder) (old new : T) (rows : List T)
-      → ((text : List ℕ) → now text ≡ noted (is_text text (text_of new)) (number new) (forgotten (is_text text (text_of old)) (number new) (before text)))
-      → find (has_id number (number new)) rows ≡ Some old → IsDistinct nat_eq (map number rows) → IsIndex number text_of before rows
-      → IsIndex number text_of now (replaced (has_id number (number new)) new rows)
+  pub index_replaced : (before now : K → Option Holder) (old new : T) (rows : List T)
+      → ((key : K) → now key ≡ noted (has key new) (number new) (forgotten (has key old) (number new) (before key)))
+      → find (has_id number (number new)) rows ≡ Some old → IsDistinct nat_eq (map number rows) → IsIndex number has before rows
+      → IsIndex number has now (replaced (has_id number (number new)) new rows)
   index_replaced before now old new rows says found distinct index = record {
-    tells = λ text. subst (λ h. All (λ row. Tells h (number row) (is_text text (text_of row))) (replaced (has_id number (number new)) new rows)) (sym (says text))
-        (let at = found_passes number (Says before text) (number new) old rows (index.tells text) found in
-        all_replaced number (Says before text) (Noted (less before old (number new)) new text) new
-        (λ row tells other. noted_other (less before old (number new) text) (number new) (number row) (is_text text (text_of new)) (is_text text (text_of row))
-        (forgotten_other (before text) (number new) (number row) (is_text text (text_of old)) (is_text text (text_of row)) tells other) other)
-        (noted_itself (less before old (number new) text) (number new) (is_text text (text_of new))
-        (forgotten_free (before text) (number new) (is_text text (text_of old)) (subst (λ n. Tells (before text) n (is_text text (text_of old))) (eqb-true (number old) (number new) at.1) at.0)))
-        rows (index.tells text) distinct at.2);
-    there = λ text a is. ids_replaced number (λ n. nat_eq n a) new rows
-        ∙ ⊎_elim (λ was. index.there text a (forgotten_names (before text) (number new) a (is_text text (text_of old)) was))
-        (λ same. subst (λ k. list_any (has_id number k) rows ≡ true) same (found_passes number (Says before text) (number new) old rows (index.tells text) found).2)
-        (noted_names (less before old (number new) text) (number new) a (is_text text (text_of new)) (sym (says text) ∙ is));
+    tells = λ key. subst (λ h. All (λ row. Tells h (number row) (has key row)) (replaced (has_id number (number new)) new rows)) (sym (says key))
+        (let at = found_passes number (Says before key) (number new) old rows (index.tells key) found in
+        all_replaced number (Says before key) (Noted (less before old (number new)) new key) new
+        (λ row tells other. noted_other (less before old (number new) key) (number new) (number row) (has key new) (has key row)
+        (forgotten_other (before key) (number new) (number row) (has key old) (has key row) tells other) other)
+        (noted_itself (less before old (number new) key) (number new) (has key new)
+        (forgotten_free (before key) (number new) (has key old) (subst (λ n. Tells (before key) n (has key old)) (eqb-true (number old) (number new) at.1) at.0)))
+        rows (index.tells key) distinct at.2);
+    there = λ key a is. ids_replaced number (λ n. nat_eq n a) new rows
+        ∙ ⊎_elim (λ was. index.there key a (forgotten_names (before key) (number new) a (has key old) was))
+        (λ same. subst (λ k. list_any (has_id number k) rows ≡ true) same (found_passes number (Says before key) (number new) old rows (index.tells key) found).2)
+        (noted_names (less before old (number new) key) (number new) a (has key new) (sym (says key) ∙ is));
   }
 
   -- fewer rows
-  pub index_filter : (before now : List ℕ → Option Holder) (keep : T → Bool) (rows left : List T) → left ≡ filter keep rows → ((text : List ℕ) → now text ≡ kept (is_kept number left) (before text))
-      → IsIndex number text_of before rows → IsIndex number text_of now left
+  pub index_filter : (before now : K → Option Holder) (keep : T → Bool) (rows left : List T) → left ≡ filter keep rows → ((key : K) → now key ≡ kept (is_kept number left) (before key))
+      → IsIndex number has before rows → IsIndex number has now left
   index_filter before now keep rows left less says index = record {
-    tells = λ text. subst (λ h. All (λ row. Tells h (number row) (is_text text (text_of row))) left) (sym (says text))
-        (by text (before text) (subst (All (Says before text)) (sym less) (All-filter keep (Says before text) rows (index.tells text))));
-    there = λ text a is. kept_names number left (before text) a (sym (says text) ∙ is);
+    tells = λ key. subst (λ h. All (λ row. Tells h (number row) (has key row)) left) (sym (says key))
+        (by key (before key) (subst (All (Says before key)) (sym less) (All-filter keep (Says before key) rows (index.tells key))));
+    there = λ key a is. kept_names number left (before key) a (sym (says key) ∙ is);
   }
     where
-      by : (text : List ℕ) (h : Option Holder) → All (λ row. Tells h (number row) (is_text text (text_of row))) left
-          → All (λ row. Tells (kept (is_kept number left) h) (number row) (is_text text (text_of row))) left
-      by text None tells = tells
-      by text (Some Several) tells = tells
-      by text (Some (Only a)) tells =
-          (elim (list_any (has_id number a) left) as (λ b. list_any (has_id number a) left ≡ b → All (λ row. Tells (cond {A = Option Holder} b (Some (Only a)) None) (number row) (is_text text (text_of row))) left) [
+      by : (key : K) (h : Option Holder) → All (λ row. Tells h (number row) (has key row)) left
+          → All (λ row. Tells (kept (is_kept number left) h) (number row) (has key row)) left
+      by key None tells = tells
+      by key (Some Several) tells = tells
+      by key (Some (Only a)) tells =
+          (elim (list_any (has_id number a) left) as (λ b. list_any (has_id number a) left ≡ b → All (λ row. Tells (cond {A = Option Holder} b (Some (Only a)) None) (number row) (has key row)) left) [
             | true ↦ λ _. tells
-            | false ↦ λ none. others_of_none number (λ row. is_text text (text_of row) ≡ nat_eq (number row) a) (λ row. is_text text (text_of row) ≡ false) a (λ row same other. same ∙ other) left tells none
+            | false ↦ λ none. others_of_none number (λ row. has key row ≡ nat_eq (number row) a) (λ row. has key row ≡ false) a (λ row same other. same ∙ other) left tells none
           ]) refl
 
   -- the row with an id goes
-  pub index_removed : (before now : List ℕ → Option Holder) (old : T) (id : ℕ) (rows left : List T) → left ≡ filter (λ row. not (has_id number id row)) rows
-      → ((text : List ℕ) → now text ≡ forgotten (is_text text (text_of old)) id (before text)) → find (has_id number id) rows ≡ Some old
-      → IsIndex number text_of before rows → IsIndex number text_of now left
+  pub index_removed : (before now : K → Option Holder) (old : T) (id : ℕ) (rows left : List T) → left ≡ filter (λ row. not (has_id number id row)) rows
+      → ((key : K) → now key ≡ forgotten (has key old) id (before key)) → find (has_id number id) rows ≡ Some old
+      → IsIndex number has before rows → IsIndex number has now left
   index_removed before now old id rows left less says found index =
       index_filter before now (λ row. not (has_id number id row)) rows left less
-      (λ text. says text ∙ by text (before text) refl (is_text text (text_of old))
-      (let at = found_passes number (Says before text) id old rows (index.tells text) found in
-      subst (λ n. Tells (before text) n (is_text text (text_of old))) (eqb-true (number old) id at.1) at.0))
+      (λ key. says key ∙ by key (before key) refl (has key old)
+      (let at = found_passes number (Says before key) id old rows (index.tells key) found in
+      subst (λ n. Tells (before key) n (has key old)) (eqb-true (number old) id at.1) at.0))
       index
     where
       there : (a : ℕ) → list_any (has_id number a) left ≡ list_any (has_id number a) (filter (λ row. not (has_id number id row)) rows)
       there a = ap (list_any (has_id number a)) less
 
-      by : (text : List ℕ) (h : Option Holder) → before text ≡ h → (b : Bool) → Tells h id b → forgotten b id h ≡ kept (is_kept number left) h
-      by text None is true tells = refl
-      by text None is false tells = refl
-      by text (Some Several) is true tells = refl
-      by text (Some Several) is false tells = refl
-      by text (Some (Only a)) is true tells =
+      by : (key : K) (h : Option Holder) → before key ≡ h → (b : Bool) → Tells h id b → forgotten b id h ≡ kept (is_kept number left) h
+      by key None is true tells = refl
+      by key None is false tells = refl
+      by key (Some Several) is true tells = refl
+      by key (Some Several) is false tells = refl
+      by key (Some (Only a)) is true tells =
           ap (λ b. cond {A = Option Holder} b None (Some (Only a))) (sym tells)
           ∙ sym (ap (λ b. cond {A = Option Holder} b (Some (Only a)) None)
           (there a ∙ subst (λ k. list_any (has_id number k) (filter (λ row. not (has_id number id row)) rows) ≡ false) (eqb-true id a (sym tells)) (none_left number id rows)))
-      by text (Some (Only a)) is false tells =
-          sym (ap (λ b. cond {A = Option Holder} b (Some (Only a)) None) (there a ∙ others_left number id a (sym tells) rows ∙ index.there text a is))
+      by key (Some (Only a)) is false tells =
+          sym (ap (λ b. cond {A = Option Holder} b (Some (Only a)) None) (there a ∙ others_left number id a (sym tells) rows ∙ index.there key a is))
 
   -- ---- what is found
 
   -- of rows of other ids
-  abbrev Other : Option ℕ → List ℕ → T → Bool
-  Other except text row = is_other except (number row) && is_text text (text_of row)
+  abbrev Other : Option ℕ → K → T → Bool
+  Other except key row = is_other except (number row) && has key row
 
   and_false : (b : Bool) → (b && false) ≡ false
   and_false true = refl
   and_false false = refl
 
-  pub other_none : (holder : List ℕ → Option Holder) (text : List ℕ) (except : Option ℕ) (rows : List T) → IsIndex number text_of holder rows → holder text ≡ None
-      → find (Other except text) rows ≡ None
-  other_none holder text except rows index is =
-      find_none number (Other except text) rows
-      (All-weaker (λ row. is_text text (text_of row) ≡ false) (λ row. Other except text row ≡ false) (λ row out. ap (λ b. is_other except (number row) && b) out ∙ and_false (is_other except (number row))) rows
-      (subst (λ h. All (λ row. Tells h (number row) (is_text text (text_of row))) rows) is (index.tells text)))
+  pub other_none : (holder : K → Option Holder) (key : K) (except : Option ℕ) (rows : List T) → IsIndex number has holder rows → holder key ≡ None
+      → find (Other except key) rows ≡ None
+  other_none holder key except rows index is =
+      find_none number (Other except key) rows
+      (All-weaker (λ row. has key row ≡ false) (λ row. Other except key row ≡ false) (λ row out. ap (λ b. is_other except (number row) && b) out ∙ and_false (is_other except (number row))) rows
+      (subst (λ h. All (λ row. Tells h (number row) (has key row)) rows) is (index.tells key)))
 
-  pub other_only : (holder : List ℕ → Option Holder) (text : List ℕ) (except : Option ℕ) (id : ℕ) (rows : List T) → IsIndex number text_of holder rows → holder text ≡ Some (Only id)
-      → (if is_other except id then find (has_id number id) rows else None) ≡ find (Other except text) rows
-  other_only holder text except id rows index is =
+  pub other_only : (holder : K → Option Holder) (key : K) (except : Option ℕ) (id : ℕ) (rows : List T) → IsIndex number has holder rows → holder key ≡ Some (Only id)
+      → (if is_other except id then find (has_id number id) rows else None) ≡ find (Other except key) rows
+  other_only holder key except id rows index is =
       by (is_other except id) refl
-      ∙ sym (find_same number (Other except text) (λ row. is_other except id && has_id number id row) rows
-      (All-weaker (λ row. is_text text (text_of row) ≡ has_id number id row) (λ row. Other except text row ≡ (is_other except id && has_id number id row)) one rows
-      (subst (λ h. All (λ row. Tells h (number row) (is_text text (text_of row))) rows) is (index.tells text))))
+      ∙ sym (find_same number (Other except key) (λ row. is_other except id && has_id number id row) rows
+      (All-weaker (λ row. has key row ≡ has_id number id row) (λ row. Other except key row ≡ (is_other except id && has_id number id row)) one rows
+      (subst (λ h. All (λ row. Tells h (number row) (has key row)) rows) is (index.tells key))))
     where
-      one : (row : T) → is_text text (text_of row) ≡ has_id number id row → Other except text row ≡ (is_other except id && has_id number id row)
+      one : (row : T) → has key row ≡ has_id number id row → Other except key row ≡ (is_other except id && has_id number id row)
       one row same =
           ap (λ b. is_other except (number row) && b) same
           ∙ (elim (has_id number id row) as (λ b. has_id number id row ≡ b → (is_other except (number row) && b) ≡ (is_other except id && b)) [
