@@ -16,7 +16,7 @@ use kg_row_types::id::Id;
 use kg_row_types::plugin::PluginRow;
 use kg_row_types::route::Route;
 use kg_row_types::service::Service;
-use kg_tables::{NamedTable, RowTable, is_other};
+use kg_tables::{NamedTable, PluginTable, RowTable};
 use kg_text::{NoMemory, Text, TryClone};
 use std::alloc::Global;
 use std::marker::Model;
@@ -30,7 +30,7 @@ pub struct Rows {
     key_creds: NamedTable<KeyCred>,
     basic_creds: NamedTable<BasicCred>,
     acls: RowTable<AclRow>,
-    plugins: RowTable<PluginRow>,
+    plugins: PluginTable,
 }
 
 impl Model for Rows {
@@ -53,7 +53,7 @@ impl Rows {
             key_creds: NamedTable::new(alloc),
             basic_creds: NamedTable::new(alloc),
             acls: RowTable::new(alloc),
-            plugins: RowTable::new(alloc),
+            plugins: PluginTable::new(alloc),
         }
     }
 
@@ -96,7 +96,7 @@ impl Rows {
     pub fn plugins(&self) -> &RowTable<PluginRow>
         ensures { result.now ≡ self.now.plugins }
     {
-        &self.plugins
+        self.plugins.table()
     }
 
     /// Whether there is a row of this kind and id.
@@ -110,7 +110,7 @@ impl Rows {
             Kind::KeyCred => self.key_creds.table().contains(id),
             Kind::BasicCred => self.basic_creds.table().contains(id),
             Kind::Acl => self.acls.contains(id),
-            Kind::Plugin => self.plugins.contains(id),
+            Kind::Plugin => self.plugins.table().contains(id),
         }
     }
 
@@ -125,7 +125,7 @@ impl Rows {
             Kind::KeyCred => self.key_creds.table().len(),
             Kind::BasicCred => self.basic_creds.table().len(),
             Kind::Acl => self.acls.len(),
-            Kind::Plugin => self.plugins.len(),
+            Kind::Plugin => self.plugins.table().len(),
         }
     }
 
@@ -229,7 +229,7 @@ impl Rows {
     pub fn other_like(&self, except: Option<Id>, plugin: &PluginRow) -> Option<&PluginRow>
         ensures { option_copied result ≡ find (λ other. is_other except other.id && same_name_and_scope other plugin.now) self.now.plugins }
     {
-        self.plugins.walk().find(|other| is_other(except, other.id) && is_like(other, plugin))
+        self.plugins.other_like(except, plugin)
     }
 
     /// The first membership of this group.
@@ -271,10 +271,7 @@ impl Rows {
                 drop(self.acls.replace(row.try_clone(alloc)?)?);
                 Ok(())
             }
-            Entity::Plugin(row) => {
-                drop(self.plugins.replace(row.try_clone(alloc)?)?);
-                Ok(())
-            }
+            Entity::Plugin(row) => self.plugins.replace(row.try_clone(alloc)?),
         }
     }
 
@@ -289,7 +286,7 @@ impl Rows {
             Kind::KeyCred => self.key_creds.remove(id),
             Kind::BasicCred => self.basic_creds.remove(id),
             Kind::Acl => drop(self.acls.remove(id)),
-            Kind::Plugin => drop(self.plugins.remove(id)),
+            Kind::Plugin => self.plugins.remove(id),
         }
     }
 
@@ -308,10 +305,4 @@ impl Rows {
         self.basic_creds.remove_of(Kind::Consumer, consumer);
         self.acls.remove_of(Kind::Consumer, consumer);
     }
-}
-
-fn is_like(a: &PluginRow, b: &PluginRow) -> bool
-    ensures { result ≡ same_name_and_scope a.now b.now }
-{
-    a.config.name().is_same(b.config.name()) && a.scope.is_same(&b.scope)
 }
