@@ -4,7 +4,6 @@ use Rattle.std.proofs.lemmas.Bool.{eqb-true}
 use Rattle.std.proofs.lemmas.Bool.Decides.{eqb_tells}
 use Rattle.std.proofs.lemmas.List.Elements.{All-cons, All-filter, All-head, All-nil, All-push, All-tail, All-weaker}
 use Rattle.std.proofs.lemmas.List.Folds.{list_any-append}
-use Rattle.std.proofs.lemmas.Map.Entries.{option_filter}
 use Rattle.std.proofs.lemmas.Map.Keys.{IsDistinct-head, IsDistinct-tail}
 use Rattle.std.specs.List.{list_any, AllByRecursion, IsDistinct}
 use Rattle.kg_tables.proofs.TableLemmas.{flipped}
@@ -17,10 +16,6 @@ use Rattle.kg_tables.specs.declared.key_index.Holder.TheVariants.{Only, Several}
 
 pub same_number : (n : ℕ) → nat_eq n n ≡ true
 same_number n = ⊎_elim (λ yes. yes.0) (λ no. absurd (no.1 refl)) (eqb_tells n n)
-
-pub filter-kept : (test : Holder → Bool) (holder : Option Holder) → option_filter test holder ≡ kept test holder
-filter-kept test None = refl
-filter-kept test (Some holder) = refl
 
 -- ---- one key
 
@@ -284,7 +279,7 @@ module _ {K T : Type 0} (number : T → ℕ) (has : K → T → Bool) where
   }
 
   -- fewer rows
-  pub index_filter : (before now : K → Option Holder) (keep : T → Bool) (rows left : List T) → left ≡ filter keep rows → ((key : K) → now key ≡ kept (is_kept number left) (before key))
+  index_filter : (before now : K → Option Holder) (keep : T → Bool) (rows left : List T) → left ≡ filter keep rows → ((key : K) → now key ≡ kept (is_kept number left) (before key))
       → IsIndex number has before rows → IsIndex number has now left
   index_filter before now keep rows left less says index = record {
     tells = λ key. subst (λ h. All (λ row. Tells h (number row) (has key row)) left) (sym (says key))

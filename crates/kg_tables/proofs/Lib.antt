@@ -1,10 +1,10 @@
 mod FirstLemmas
 mod IdLemmas
+mod KeyIndexLemmas
 mod ListedLemmas
 mod PairLemmas
 mod PlaceLemmas
 mod PluginKeyLemmas
 pub mod SetLemmas
 mod TableLemmas
-mod KeyIndexLemmas
 mod WalkLemmas

@@ -40,8 +40,3 @@ module _ {T : Type 0} (test : T → Bool) where
       fails : (b : Bool) → test e.1 ≡ b → b ≡ false
       fails true is = absurd (true≢false (sym (All-head (Listed lists) e es listed is) ∙ none e.0))
       fails false is = refl
-
-  -- ---- a walk goes on
-
-  pub walk_over : (entries : List (ℕ × T)) (pair : ℕ × ℕ) (pairs : List (ℕ × ℕ)) → rows_at test entries (pair ∷ pairs) ≡ filter test (cons_option (row_at entries pair.1) (filter_map (λ p. row_at entries p.1) pairs))
-  walk_over entries pair pairs = refl

@@ -3,7 +3,6 @@ use Rattle.std.proofs.Common.{◌≡◌, ℕ, Bool, true, false, ◌&&◌, nat_e
 use Rattle.std.proofs.lemmas.Bool.{eqb-true}
 use Rattle.std.specs.Cmp.{both_ways}
 use Rattle.std.specs.Option.{option_eq}
-use Rattle.std.specs.Str.{bytes_eq}
 use Rattle.kg_text.specs.SameBytes.{same_bytes}
 use Rattle.kg_row_types.specs.PluginNames.{plugin_named, plugin_of, plugin_text, plugins_in_order, priority, same_plugin}
 use Rattle.kg_row_types.specs.ValidRows.{same_id, same_name_and_scope}

@@ -1,14 +1,11 @@
--- The entries of a table and its rows: to look up, to add, to replace and to take out is the same in
--- both.
-use Rattle.std.proofs.Common.{◌≡◌, ℕ, Bool, true, false, cond, ◌||◌, nat_eq, List, [], ◌∷◌, ◌++◌, Option, Some, None, is_some, map, filter, find, option_to_list, All, refl, sym, ap, ap₂, subst, ◌∙◌, ⊎_elim, true≢false}
+-- The rows of a table by their ids, and by the entries that have them.
+use Rattle.std.proofs.Common.{◌≡◌, ℕ, Bool, true, false, cond, ◌||◌, nat_eq, List, [], ◌∷◌, ◌++◌, Option, Some, is_some, map, filter, find, option_to_list, refl, sym, ap, subst, ◌∙◌, ⊎_elim, true≢false}
 use Rattle.std.proofs.lemmas.Bool.{eqb-true}
 use Rattle.std.proofs.lemmas.Bool.Decides.{eqb_tells}
-use Rattle.std.proofs.lemmas.List.Elements.{All-head, All-tail, All-cons, All-nil}
 use Rattle.std.proofs.lemmas.List.{map-append}
 use Rattle.std.proofs.lemmas.Map.Keys.{IsDistinct-head, IsDistinct-tail}
 use Rattle.std.specs.List.{list_any, AllByRecursion, IsDistinct}
-use Rattle.std.specs.Map.{keys_of, lookup, values_of}
-use Rattle.indexmap.specs.IndexMap.{insert_entry}
+use Rattle.std.specs.Map.{values_of}
 use Rattle.kg_row_types.specs.Tables.{replaced}
 
 -- equality of numbers, asked the other way round
@@ -18,26 +15,6 @@ flipped a b =
     (λ no. no.0 ∙ sym (⊎_elim (λ yes. absurd (no.1 (sym yes.1))) (λ also. also.0) (eqb_tells b a))) (eqb_tells a b)
 
 module _ {T : Type 0} (number : T → ℕ) where
-  -- an entry's key is the id of its row
-  abbrev pub Tied : ℕ × T → Type 0
-  Tied e = e.0 ≡ number e.1
-
-  -- the keys are the ids of the rows
-  pub keys_tied : (es : List (ℕ × T)) → All Tied es → keys_of es ≡ map number (values_of es)
-  keys_tied [] tied = refl
-  keys_tied (e ∷ es) tied = ap₂ (λ id ids. id ∷ ids) (All-head Tied e es tied) (keys_tied es (All-tail Tied e es tied))
-
-  -- the test of an entry's key is that of its row
-  same_test : (id : ℕ) (e : ℕ × T) → Tied e → nat_eq id e.0 ≡ nat_eq (number e.1) id
-  same_test id e tied = flipped id e.0 ∙ ap (λ k. nat_eq k id) tied
-
-  -- the row under an id is the first with it
-  pub found_tied : (id : ℕ) (es : List (ℕ × T)) → All Tied es → lookup (nat_eq id) es ≡ find (λ row. nat_eq (number row) id) (values_of es)
-  found_tied id [] tied = refl
-  found_tied id (e ∷ es) tied =
-      ap (λ b. cond {A = Option T} b (Some e.1) (lookup (nat_eq id) es)) (same_test id e (All-head Tied e es tied))
-      ∙ ap (λ rest. cond {A = Option T} (nat_eq (number e.1) id) (Some e.1) rest) (found_tied id es (All-tail Tied e es tied))
-
   -- there is one exactly where one has it
   pub is_some-find : (test : T → Bool) (rows : List T) → is_some (find test rows) ≡ list_any test rows
   is_some-find test [] = refl
@@ -60,28 +37,6 @@ module _ {T : Type 0} (number : T → ℕ) where
         | false ↦ λ _. only_one id rows (IsDistinct-tail nat_eq (number row) (map number rows) distinct)
       ]) refl
 
-  -- where none has it, nothing is under the id
-  pub nothing_tied : (id : ℕ) (es : List (ℕ × T)) → All Tied es → list_any (λ row. nat_eq (number row) id) (values_of es) ≡ false → lookup (nat_eq id) es ≡ None
-  nothing_tied id es tied none = by (lookup (nat_eq id) es) refl
-    where
-      by : (found : Option T) → lookup (nat_eq id) es ≡ found → found ≡ None
-      by None is = refl
-      by (Some row) is = absurd (true≢false (ap is_some (sym is ∙ found_tied id es tied) ∙ is_some-find (λ row. nat_eq (number row) id) (values_of es) ∙ none))
-
-  -- a row put under its id stands in the place of the first with it
-  pub replaced_tied : (new : T) (es : List (ℕ × T)) → All Tied es → is_some (lookup (nat_eq (number new)) es) ≡ true
-      → values_of (insert_entry nat_eq es (number new) new) ≡ replaced (λ row. nat_eq (number row) (number new)) new (values_of es)
-  replaced_tied new [] tied there = absurd (true≢false (sym there))
-  replaced_tied new (e ∷ es) tied there =
-      let test = same_test (number new) e (All-head Tied e es tied) in
-      (elim (nat_eq (number new) e.0) as (λ b. nat_eq (number new) e.0 ≡ b → is_some (cond {A = Option T} b (Some e.1) (lookup (nat_eq (number new)) es)) ≡ true
-      → values_of (cond {A = List (ℕ × T)} b ((e.0, new) ∷ es) (e ∷ insert_entry nat_eq es (number new) new))
-      ≡ cond {A = List T} (nat_eq (number e.1) (number new)) (new ∷ values_of es) (e.1 ∷ replaced (λ row. nat_eq (number row) (number new)) new (values_of es))) [
-        | true ↦ λ is _. sym (ap (λ b. cond {A = List T} b (new ∷ values_of es) (e.1 ∷ replaced (λ row. nat_eq (number row) (number new)) new (values_of es))) (sym test ∙ is))
-        | false ↦ λ is more. ap (λ rest. e.1 ∷ rest) (replaced_tied new es (All-tail Tied e es tied) more)
-            ∙ sym (ap (λ b. cond {A = List T} b (new ∷ values_of es) (e.1 ∷ replaced (λ row. nat_eq (number row) (number new)) new (values_of es))) (sym test ∙ is))
-      ]) refl there
-
   -- where none has the id, nothing is replaced
   pub not_replaced : (new : T) (test : T → Bool) (rows : List T) → list_any test rows ≡ false → rows ≡ replaced test new rows
   not_replaced new test [] none = refl
@@ -90,15 +45,6 @@ module _ {T : Type 0} (number : T → ℕ) where
         | true ↦ λ yes. absurd (true≢false yes)
         | false ↦ λ rest. ap (λ more. row ∷ more) (not_replaced new test rows rest)
       ]) none
-
-  -- entries stay tied when a row is put under its id
-  pub tied_insert : (new : T) (es : List (ℕ × T)) → All Tied es → All Tied (insert_entry nat_eq es (number new) new)
-  tied_insert new [] tied = All-cons Tied (number new, new) [] refl (All-nil Tied)
-  tied_insert new (e ∷ es) tied =
-      (elim (nat_eq (number new) e.0) as (λ b. nat_eq (number new) e.0 ≡ b → All Tied (cond {A = List (ℕ × T)} b ((e.0, new) ∷ es) (e ∷ insert_entry nat_eq es (number new) new))) [
-        | true ↦ λ is. All-cons Tied (e.0, new) es (sym (eqb-true (number new) e.0 is)) (All-tail Tied e es tied)
-        | false ↦ λ _. All-cons Tied e (insert_entry nat_eq es (number new) new) (All-head Tied e es tied) (tied_insert new es (All-tail Tied e es tied))
-      ]) refl
 
 -- the rows of a pushed entry
 pub values-push : {T : Type 0} (es : List (ℕ × T)) (id : ℕ) (row : T) → values_of (es ++ (id, row) ∷ []) ≡ values_of es ++ row ∷ []

@@ -1,6 +1,6 @@
 //! The rows of one kind, found by id and by what they name.
 
-ghost use Rattle.std.specs.Prelude.{◌≡◌, [], ◌∷◌, ◌++◌, ◌==◌, ◌<◌, false, IfNone, IfOk, IfSome, OnOk, OnErr, find, filter, length, map, nat_eq, not, option_map, take, None, if◌then◌else◌};
+ghost use Rattle.std.specs.Prelude.{◌≡◌, [], ◌∷◌, ◌++◌, ◌==◌, ◌<◌, false, IfNone, IfOk, IfSome, OnOk, OnErr, find, filter, length, map, nat_eq, not, take, None, if◌then◌else◌};
 ghost use Rattle.std.specs.Option.{option_copied, option_to_list};
 ghost use Rattle.std.specs.List.{list_any, IsDistinct};
 ghost use Rattle.kg_row_types.specs.Tables.{replaced};

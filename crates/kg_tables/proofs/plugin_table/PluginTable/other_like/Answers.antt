@@ -1,5 +1,4 @@
-use Rattle.std.proofs.Common.{◌≡◌, ℕ, Some, None, find, ◌&&◌, option_copied, sym, ap, ◌∙◌}
-use Rattle.std.specs.Prelude.{if◌then◌else◌}
+use Rattle.std.proofs.Common.{ℕ, Some, find, ◌&&◌, option_copied, sym, ap, ◌∙◌}
 use Rattle.kg_row_types.specs.ValidRows.{same_name_and_scope}
 use Rattle.kg_row_types.specs.declared.plugin.PluginRow.{PluginRow}
 use Rattle.kg_tables.specs.Others.{is_other}

@@ -1,4 +1,4 @@
-use Rattle.std.proofs.Common.{◌≡◌, ℕ, None, Some, find, is_some, nat_eq, refl, sym, ap, subst, ◌∙◌}
+use Rattle.std.proofs.Common.{◌≡◌, ℕ, None, Some, find, is_some, refl, sym, ap, subst, ◌∙◌}
 use Rattle.kg_row_types.specs.declared.plugin.PluginRow.{PluginRow}
 use Rattle.kg_tables.specs.KeyIndexes.{IsIndex, holder_of}
 use Rattle.kg_tables.specs.PluginKeys.{has_key, key_eq, key_of}
