@@ -1,4 +1,5 @@
 mod ChecksLemmas
+mod HeadEndLemmas
 mod HeldLemmas
 mod JudgeLemmas
 mod JudgedLemmas
@@ -9,4 +10,5 @@ mod PrintedLemmas
 mod ReaderLemmas
 pub mod RefusalLemmas
 mod StatedLemmas
+mod UnreadLemmas
 mod ValueLemmas

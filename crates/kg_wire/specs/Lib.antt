@@ -1,4 +1,5 @@
 pub mod Checks
+pub mod HeadEnds
 pub mod Messages
 pub mod OpenTargets
 pub mod Reading

@@ -1,13 +1,14 @@
 //! Reading the requests of a connection, one after another.
 
 ghost use Rattle.std.specs.Prelude.{◌≡◌, ◌≤◌, ◌<◌, ◌+◌, List, ℕ, [], ◌++◌, Some, None, Ok, Err, IsTrue, IfOk, OnOk, IfErr, OnErr, IsErrOf, length, take, drop};
+ghost use Rattle.httparse.specs.Grammar.{HasNoRequest};
 ghost use Rattle.kg_outside.specs.Causes.{Rose};
 ghost use Rattle.kg_outside.specs.Moves.{with_front};
-ghost use Rattle.kg_wire.specs.Messages.{most_head, Message, print_message, request_of, request_with, IsRequest};
+ghost use Rattle.kg_wire.specs.Messages.{most_head, BeginsNoRequest, Message, print_message, request_of, request_with, IsRequest};
 ghost use Rattle.kg_wire.specs.Reading.{Counts, Grows, Takes, Gives, Ends, IsUnlessPrevented, RefusesUnlessPrevented};
 ghost use Rattle.kg_wire.specs.Refusals.{IsBad, IsCut};
 ghost use Rattle.kg_wire.specs.Targets.{is_target};
-ghost use Rattle.kg_wire.specs.ReadingSteps.{FillsHead, FindsHead, FindsStart, IsOpen, IsStart, error_of};
+ghost use Rattle.kg_wire.specs.ReadingSteps.{Fills, FillsHead, FindsHead, FindsStart, IsOpen, IsStart, error_of};
 ghost use Rattle.kg_wire.specs.declared.reader.ReadError.{ReadError as AnError};
 ghost use Rattle.kg_wire.specs.declared.reader.ReadError.TheVariants.{NoMemory as OutOfMemory};
 
@@ -107,7 +108,8 @@ impl Reader {
     }
 
     /// Reads the next request. `None` is the end of the connection: the source ended where no request
-    /// had begun. After an error each later call answers the same and reads nothing.
+    /// had begun. A request is answered as soon as it is whole: nothing behind it is read. After an error each
+    /// later call answers the same and reads nothing.
     pub fn next_request<S: Source>(
         &mut self,
         alloc: Global,
@@ -123,6 +125,13 @@ impl Reader {
             → IsBad rest → RefusesUnlessPrevented result (AnError.Bad self.old.at) }
         ensures cut { (rest : List ℕ) → self.old.error ≡ None → with_front self.old.held (S.left source.old) ≡ Some rest
             → IsCut rest → RefusesUnlessPrevented result (AnError.Cut (length rest)) }
+
+        // Nothing is read where the answer is held: a whole request, or what is refused.
+        ensures whole { (m : Message) (rest : List ℕ) → self.old.error ≡ None → IsRequest m → self.old.held ≡ print_message m ++ rest
+            → source.new ≡ source.old }
+        ensures refused { self.old.error ≡ None → IsBad self.old.held → source.new ≡ source.old }
+
+        // After an error.
         ensures again { (e : AnError) → self.old.error ≡ Some e → (result ≡ Err e) × (self.new ≡ self.old) × (source.new ≡ source.old) }
         ensures stays { IfErr result (λ e. self.new.error ≡ Some e) }
         ensures fresh { OnOk result (self.new.error ≡ None) }
@@ -155,6 +164,8 @@ impl Reader {
         ensures kept { OnOk result (S.faults source.new ≡ S.faults source.old) }
         ensures beside { S.beside source.new ≡ S.beside source.old }
         ensures counts { IfErr result (Counts (S.faults source.old) (S.faults source.new)) }
+        ensures whole { (m : Message) (rest : List ℕ) → IsRequest m → self.old.held ≡ print_message m ++ rest → source.new ≡ source.old }
+        ensures refused { IsBad self.old.held → source.new ≡ source.old }
     {
         match next_head(alloc, source, &mut self.held, &mut self.room, self.at)? {
             Some(start) => Ok(Some(self.take_request(alloc, source, start)?)),
@@ -177,6 +188,7 @@ impl Reader {
         ensures kept { OnOk result (S.faults source.new ≡ S.faults source.old) }
         ensures beside { S.beside source.new ≡ S.beside source.old }
         ensures counts { IfErr result (Counts (S.faults source.old) (S.faults source.new)) }
+        ensures unread { start.message_len ≤ length self.old.held → source.new ≡ source.old }
     {
         match fill_message(source, &mut self.held, &start, self.at) {
             Ok(()) => Ok(self.take_held(alloc, start)?),
@@ -222,11 +234,25 @@ impl Reader {
     }
 }
 
+// Reads one piece more, and answers how long it is. 0 is the end of the source. Nothing is asked for where a
+// whole request is held.
+fn read_more<S: Source>(source: &mut S, held: &mut Held) -> Result<usize, FillError>
+    requires { BeginsNoRequest held.old }
+    ensures ok { IfOk result (Fills held.old held.new (S.left source.old) (S.left source.new)) }
+    ensures err { OnErr result ((held.new ≡ held.old) × (S.left source.new ≡ S.left source.old)) }
+    ensures kept { OnOk result (S.faults source.new ≡ S.faults source.old) }
+    ensures beside { S.beside source.new ≡ S.beside source.old }
+    ensures counts { IfErr result (λ f. Counts (S.faults source.old) (S.faults source.new) (error_of f)) }
+{
+    held.fill(source)
+}
+
 // Reads on until more can be told of a head: the end of one may have come, twice as much is held as
 // before, or as many bytes as the longest head has, or the source ended. Answers whether it ended. A head
 // is judged once it is whole, and before that so seldom that all judging together takes linear time.
 fn fill_head<S: Source>(source: &mut S, held: &mut Held) -> Result<bool, FillError>
-    requires { length held.old < most_head }
+    requires short { length held.old < most_head }
+    requires none { HasNoRequest held.old }
     ensures ok { IfOk result (FillsHead held.old held.new (S.left source.old) (S.left source.new)) }
     ensures err { OnErr result (Grows held.old held.new (S.left source.old) (S.left source.new)) }
     ensures kept { OnOk result (S.faults source.new ≡ S.faults source.old) }
@@ -236,7 +262,7 @@ fn fill_head<S: Source>(source: &mut S, held: &mut Held) -> Result<bool, FillErr
     let judged = held.len();
     while held.len() < MOST_HEAD {
         let before = held.len();
-        if held.fill(source)? == 0 {
+        if read_more(source, held)? == 0 {
             return Ok(true);
         }
         if held.len() >= 2 * judged || has_head_end(held.as_slice(), before) {
@@ -258,6 +284,7 @@ fn find_head<S: Source>(
     ensures kept { OnOk result (S.faults source.new ≡ S.faults source.old) }
     ensures beside { S.beside source.new ≡ S.beside source.old }
     ensures counts { IfErr result (Counts (S.faults source.old) (S.faults source.new)) }
+    ensures unread { (IsOpen held.old → ⊥) → source.new ≡ source.old }
 {
     let mut ended = false;
     loop {
@@ -300,6 +327,7 @@ fn next_head<S: Source>(
     ensures kept { OnOk result (S.faults source.new ≡ S.faults source.old) }
     ensures beside { S.beside source.new ≡ S.beside source.old }
     ensures counts { IfErr result (Counts (S.faults source.old) (S.faults source.new)) }
+    ensures unread { (IsOpen held.old → ⊥) → source.new ≡ source.old }
 {
     let spans = match find_head(source, held, room, at)? {
         Some(spans) => spans,
@@ -334,9 +362,10 @@ fn fill_message<S: Source>(
     ensures kept { OnOk result (S.faults source.new ≡ S.faults source.old) }
     ensures beside { S.beside source.new ≡ S.beside source.old }
     ensures counts { IfErr result (Counts (S.faults source.old) (S.faults source.new)) }
+    ensures unread { start.now.message_len ≤ length held.old → source.new ≡ source.old }
 {
     while held.len() < start.message_len {
-        if held.fill(source)? == 0 {
+        if read_more(source, held)? == 0 {
             let have = held.len() as u64;
             return Err(ReadError::Cut { have });
         }

@@ -41,3 +41,15 @@ pub returns-in_default-result-clause-cut : goal.returns-in_default-result-clause
 returns-in_default-result-clause-cut g c = λ rest none ahead is.
     refuses_cut c.read-result.result c.args.self.now c.read-result.new.self (g.S.Source.left c.args.source.now)
     (g.S.Source.left c.read-result.new.source) rest ahead is c.read-result.ensures.ok c.read-result.ensures.err
+
+pub returns-in-Err-clause-whole : goal.returns-in-Err-clause-whole
+returns-in-Err-clause-whole g c = λ m rest none is whole. c.read-result.ensures.whole m rest is whole
+
+pub returns-in-Err-clause-refused : goal.returns-in-Err-clause-refused
+returns-in-Err-clause-refused g c = λ none bad. c.read-result.ensures.refused bad
+
+pub returns-in_default-result-clause-whole : goal.returns-in_default-result-clause-whole
+returns-in_default-result-clause-whole g c = λ m rest none is whole. c.read-result.ensures.whole m rest is whole
+
+pub returns-in_default-result-clause-refused : goal.returns-in_default-result-clause-refused
+returns-in_default-result-clause-refused g c = λ none bad. c.read-result.ensures.refused bad
