@@ -11,8 +11,10 @@ ghost use Rattle.kg_router.specs.Table.{AreListed, IsTable, LeadsTo};
 
 use crate::places::ServicePlaces;
 use crate::rank::Rank;
-use kg_entities::{Id, Route, Service};
 use kg_match::RouteTest;
+use kg_row_types::id::Id;
+use kg_row_types::route::Route;
+use kg_row_types::service::Service;
 use kg_text::NoMemory;
 use std::alloc::{AllocError, Global};
 

@@ -10,9 +10,10 @@ ghost use Rattle.kg_router.specs.Found.{choice_at};
 ghost use Rattle.kg_router.specs.RouterRows.{HasDistinctRoutes};
 
 use crate::candidate::{Candidate, in_order};
-use kg_entities::{Route, Service};
 use kg_match::{BuildError, RouteTest};
 use kg_message::Request;
+use kg_row_types::route::Route;
+use kg_row_types::service::Service;
 use kg_text::{List, NoMemory, TryClone, host_part};
 use std::alloc::Global;
 use std::marker::Model;

@@ -10,4 +10,4 @@ mod rank;
 
 pub use crate::best::some_route_that_takes_a_request_is_the_best;
 pub use crate::generation::{Choice, RouterGen};
-pub use crate::rank::{route_order_is_strict, route_order_is_total};
+pub use crate::rank::{compare_routes, route_order_is_strict, route_order_is_total};

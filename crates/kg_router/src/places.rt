@@ -5,7 +5,8 @@ ghost use Rattle.std.specs.Option.{option_or};
 ghost use Rattle.kg_router.specs.Places.{place_in, ArePlaces};
 
 use indexmap::IndexMap;
-use kg_entities::{Id, Service};
+use kg_row_types::id::Id;
+use kg_row_types::service::Service;
 use kg_text::NoMemory;
 use std::alloc::Global;
 

@@ -3,12 +3,13 @@
 ghost use Rattle.std.specs.Prelude.{◌≡◌, ◌≢◌, ◌⊎◌, IsTrue};
 ghost use Rattle.kg_row_types.specs.declared.route.Route.{Route as ARoute};
 ghost use Rattle.kg_row_types.specs.TextForms.{is_set};
-ghost use Rattle.kg_router.specs.Order.{attribute_count, has_wildcard_host, regex_priority_of, path_len, longest_path_len, is_before};
+ghost use Rattle.kg_router.specs.Order.{attribute_count, has_wildcard_host, regex_priority_of, path_len, longest_path_len, is_before, route_cmp};
 ghost use Rattle.kg_router.specs.Ranks.{rank_of, rank_cmp};
 ghost use Rattle.kg_match.specs.RoutePaths.{has_regex_path};
 
-use kg_entities::{Id, Route};
 use kg_match::{is_regex_path, is_wildcard};
+use kg_row_types::id::Id;
+use kg_row_types::route::Route;
 use kg_text::{List, Text};
 use std::cmp::Ordering;
 
@@ -61,6 +62,14 @@ impl Rank {
             .then_with(|| self.created_at.cmp(&other.created_at))
             .then_with(|| self.id.cmp(&other.id))
     }
+}
+
+/// `Less` where the first route comes before the second: of two routes that take a request, the one that comes
+/// first gets it.
+pub fn compare_routes(first: &Route, second: &Route) -> Ordering
+    ensures { result ≡ route_cmp first.now second.now }
+{
+    Rank::of(first).compare(&Rank::of(second))
 }
 
 // How many of methods, hosts, headers and paths are set.
