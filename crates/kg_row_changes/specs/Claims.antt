@@ -1,8 +1,8 @@
 -- What only one row may have, and which other row has it: the id of each kind, the names of services
 -- and routes, usernames and custom ids, keys, a group of a consumer, a plugin in a scope (Kong Admin API,
 -- unique constraints). Disabled rows count.
-use Rattle.std.specs.Prelude.{ℕ, Bool, true, not, ◌&&◌, ◌==◌, List, [], ◌∷◌, find, codes, Option, Some, None, option_map, option_and_then, if◌then◌else◌}
-use Rattle.std.specs.Option.{option_or, option_map_or}
+use Rattle.std.specs.Prelude.{ℕ, Bool, ◌&&◌, List, [], ◌∷◌, find, codes, Option, Some, None, option_map, option_and_then, if◌then◌else◌}
+use Rattle.std.specs.Option.{option_or}
 use Rattle.std.specs.Str.{bytes_eq}
 use Rattle.kg_row_types.specs.Lookups.{is_text}
 use Rattle.kg_row_types.specs.RowChanges.{has_row}
@@ -12,12 +12,9 @@ use Rattle.kg_row_types.specs.declared.entity.Entity.{Entity}
 use Rattle.kg_row_types.specs.declared.entity.Entity.TheVariants as row
 use Rattle.kg_row_types.specs.declared.entity.Kind.{Kind}
 use Rattle.kg_row_types.specs.declared.entity.Kind.TheVariants as kind
+use Rattle.kg_tables.specs.Others.{is_other}
 
 -- ---- the row that has something
-
--- another row than the one that is replaced, if one is
-abbrev pub is_other : Option ℕ → ℕ → Bool
-is_other replaced id = option_map_or (λ old. not (id == old)) replaced true
 
 -- the id of the first other row that passes
 abbrev pub holder : {X : Type 0} → (X → ℕ) → Option ℕ → (X → Bool) → List X → Option ℕ

@@ -5,7 +5,7 @@ ghost use Rattle.std.specs.List.{list_any};
 ghost use Rattle.kg_row_changes.specs.Allowed.{has_if_set, has_scope, has_named_rows, is_unique, is_unused, is_consistent, has_room, is_allowed};
 
 use crate::claims::claimed;
-use kg_entities::{Entity, Id, Kind, Route, Rows, Scope};
+use kg_entities::{Entity, Id, Kind, Rows, Scope};
 use kg_row_values::command::Command;
 
 /// Whether the command is allowed at these rows: an inserted row's id is new and its kind has fewer
@@ -48,7 +48,7 @@ pub fn is_unused(kind: Kind, id: Id, rows: &Rows) -> bool
     ensures { result ≡ is_unused kind id rows.now }
 {
     match kind {
-        Kind::Service => !has_route_to(rows.routes().as_slice(), id),
+        Kind::Service => !has_route_to(rows, id),
         Kind::Route => true,
         Kind::Consumer => true,
         Kind::KeyCred => true,
@@ -58,10 +58,13 @@ pub fn is_unused(kind: Kind, id: Id, rows: &Rows) -> bool
     }
 }
 
-fn has_route_to(routes: &[Route], service: Id) -> bool
-    ensures { result ≡ list_any (λ route. route.service == service) routes.now }
+fn has_route_to(rows: &Rows, service: Id) -> bool
+    ensures { result ≡ list_any (λ route. route.service == service) rows.now.routes }
 {
-    routes.iter().any(|route| route.service == service)
+    match rows.routes().first_of(Kind::Service, service) {
+        Some(_) => true,
+        None => false,
+    }
 }
 
 fn has_named_rows(row: &Entity, rows: &Rows) -> bool

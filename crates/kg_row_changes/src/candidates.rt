@@ -7,7 +7,7 @@ ghost use Rattle.kg_row_types.specs.declared.key.Key.{Key as Asked};
 ghost use Rattle.kg_row_changes.specs.Candidates.{candidates, keys_of, keys_of_id, keys_below, keys_of_credentials, consumer_keys, cred_keys, basic_keys, acl_keys};
 
 use kg_entities::{
-    AclRow, BasicCred, Consumer, Entity, Id, Key, KeyCred, Kind, Owned, Row, RowTable, Rows,
+    AclRow, BasicCred, Consumer, Entity, Id, Key, KeyCred, Kind, Row, RowTable, Rows, Walk,
 };
 use kg_row_values::command::Command;
 use kg_text::{NoMemory, TryClone};
@@ -157,10 +157,32 @@ fn push_of_credentials(
 ) -> Result<(), NoMemory>
     ensures { OnOk result (keys.new.items ≡ keys.old.items ++ keys_of_credentials consumer rows.now) }
 {
-    push_owned(alloc, rows.key_creds().as_slice(), consumer, keys)?;
-    push_owned(alloc, rows.basic_creds().as_slice(), consumer, keys)?;
+    push_of_key_creds(alloc, rows, consumer, keys)?;
+    push_of_basic_creds(alloc, rows, consumer, keys)?;
     keys.push(Key::Acls(consumer))?;
     Ok(())
+}
+
+fn push_of_key_creds(
+    alloc: Global,
+    rows: &Rows,
+    consumer: Id,
+    keys: &mut Vec<Key>,
+) -> Result<(), NoMemory>
+    ensures { OnOk result (keys.new.items ≡ keys.old.items ++ flat_map cred_keys (filter (λ row. row.consumer == consumer) rows.now.key_creds)) }
+{
+    push_of_each(alloc, rows.key_creds().of(Kind::Consumer, consumer), keys)
+}
+
+fn push_of_basic_creds(
+    alloc: Global,
+    rows: &Rows,
+    consumer: Id,
+    keys: &mut Vec<Key>,
+) -> Result<(), NoMemory>
+    ensures { OnOk result (keys.new.items ≡ keys.old.items ++ flat_map basic_keys (filter (λ row. row.consumer == consumer) rows.now.basic_creds)) }
+{
+    push_of_each(alloc, rows.basic_creds().of(Kind::Consumer, consumer), keys)
 }
 
 // The keys that look at the row with this id.
@@ -178,19 +200,16 @@ fn push_with_id<T: Keyed>(
     }
 }
 
-// The keys that look at the rows of this consumer.
-fn push_owned<T: Keyed + Owned>(
+// The keys that look at the rows.
+fn push_of_each<T: Keyed>(
     alloc: Global,
-    rows: &[T],
-    consumer: Id,
+    rows: Walk<'_, T>,
     keys: &mut Vec<Key>,
 ) -> Result<(), NoMemory>
-    ensures { OnOk result (keys.new.items ≡ keys.old.items ++ flat_map T.asked (filter (λ row. T.owner row == consumer) rows.now)) }
+    ensures { OnOk result (keys.new.items ≡ keys.old.items ++ flat_map T.asked rows.entry) }
 {
     for row in rows {
-        if row.consumer() == consumer {
-            row.push_keys(alloc, keys)?;
-        }
+        row.push_keys(alloc, keys)?;
     }
     Ok(())
 }

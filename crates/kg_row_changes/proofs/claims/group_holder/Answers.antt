@@ -1,13 +1,12 @@
-use Rattle.std.proofs.Common.{◌&&◌, ◌∙◌, sym}
-use Rattle.kg_row_types.specs.ValidRows.{same_membership}
-use Rattle.kg_row_values.proofs.GroupLemmas.{taken_alike}
-use Rattle.kg_row_values.proofs.Searches.{held_by_none}
-use Rattle.kg_row_changes.specs.Claims.{is_other}
+use Rattle.std.proofs.Common.{◌==◌, option_map, ap, ◌∙◌}
+use Rattle.std.specs.Str.{bytes_eq}
+use Rattle.kg_row_values.proofs.Searches.{find_both}
+use Rattle.kg_tables.specs.Others.{is_other}
 use Rattle.kg_row_changes.proofs.claims.group_holder.Goals as goal
 
--- none of the consumer's rows has the membership, so none of all
+-- another row with the membership is one of its consumer
 pub returns : goal.returns
 returns c =
-    held_by_none (λ other. other.id) (λ other. is_other c.args.replaced other.id && same_membership other c.args.membership.now) c.args.rows.now.acls
-    (sym (taken_alike (λ other. is_other c.args.replaced other.id) c.args.membership.now c.acls_of.result.now c.args.rows.now.acls c.acls_of.ensures)
-    ∙ sym c.has_other_membership.ensures ∙ c.if-has_other_membership.false)
+    c.id_of.ensures
+    ∙ ap (option_map (λ other. other.id)) (c.other_in_group.ensures
+    ∙ find_both (λ other. other.consumer == c.args.membership.now.consumer) (λ other. is_other c.args.replaced other.id) (λ other. bytes_eq other.group c.args.membership.now.group) c.args.rows.now.acls)
