@@ -2,16 +2,16 @@
 use Rattle.std.proofs.Common.{◌≡◌, ℕ, ◌≤◌, ◌==◌, nat_lt, if◌then◌else◌, Bool, true, false, true≢false, ◌&&◌, List, [], ◌∷◌, ◌++◌, length, Option, Some, None, unwrap_or, codes, refl, sym, ap, ap₂, ◌∙◌, arith}
 use Rattle.std.proofs.lemmas.Bool.{and_parts}
 use Rattle.std.proofs.lemmas.Bool.Decides.{nat_tests}
-use Rattle.std.specs.Option.{option_map_or, option_or}
-use Rattle.std.specs.Prelude.{IfSome, IsTrue}
+use Rattle.std.specs.Option.{option_map_or}
+use Rattle.std.specs.Prelude.{IfSome}
 use Rattle.std.specs.Str.{bytes_eq}
-use Rattle.serde_json.specs.Data.{Data, null, boolean, string}
+use Rattle.serde_json.specs.Data.{Data, null, string}
 use Rattle.kg_text.specs.SameBytes.{same_bytes}
 use Rattle.kg_row_types.specs.ConfigTexts.{is_edit, is_header_edit, is_header_rename, is_ipv4_block, is_key_name}
 use Rattle.kg_row_types.specs.Ids.{id_of, printed}
 use Rattle.kg_row_types.specs.PluginNames.{plugin_of}
-use Rattle.kg_row_types.specs.TextForms.{has_length, is_free_text, is_list_of, is_method, is_printed_if_id, is_text_within}
-use Rattle.kg_row_types.specs.ValidRows.{IsAnonymous, IsLimit, IsValidAclConfig, IsValidBasicAuth, IsValidConfig, IsValidCors, IsValidIpRestriction, IsValidKeyAuth, IsValidRateLimiting, IsValidRequestTransformer, IsValidResponseTransformer, IsValidSizeLimit, IsValidTermination, are_edits}
+use Rattle.kg_row_types.specs.TextForms.{is_free_text, is_list_of, is_method, is_printed_if_id, is_text_within}
+use Rattle.kg_row_types.specs.ValidRows.{IsAnonymous, IsValidAclConfig, IsValidBasicAuth, IsValidConfig, IsValidCors, IsValidIpRestriction, IsValidKeyAuth, IsValidRateLimiting, IsValidRequestTransformer, IsValidResponseTransformer, IsValidSizeLimit, IsValidTermination, are_edits}
 use Rattle.kg_row_types.specs.declared.config.Acl.{Acl}
 use Rattle.kg_row_types.specs.declared.config.BasicAuth.{BasicAuth}
 use Rattle.kg_row_types.specs.declared.config.Config.{Config}
@@ -33,7 +33,6 @@ use Rattle.kg_row_types.specs.declared.plugin.PluginName.TheVariants as plugin
 use Rattle.kg_bodies.specs.TableSettings.{text_in, texts_in, whole_in}
 use Rattle.kg_field_rules.specs.Choices.{limit_by_named, size_unit_named}
 use Rattle.kg_field_rules.specs.declared.text_kind.Choice.TheVariants as choice
-use Rattle.kg_field_rules.specs.declared.text_kind.TextKind.{TextKind}
 use Rattle.kg_field_rules.specs.declared.text_kind.TextKind.TheVariants as text_kind
 use Rattle.kg_field_tables.specs.BrokenRules.{object_rule, violations_in, violations_inside}
 use Rattle.kg_field_tables.specs.FieldTables.{header_text_kind}

@@ -1,5 +1,5 @@
 -- A shown consumer makes the consumer again.
-use Rattle.std.proofs.Common.{◌≡◌, ℕ, ◌/◌, List, [], Option, codes, refl}
+use Rattle.std.proofs.Common.{◌≡◌, ℕ, ◌/◌, List, [], Option, refl}
 use Rattle.std.specs.Prelude.{IfSome}
 use Rattle.kg_row_types.specs.ValidRows.{IsValidConsumer}
 use Rattle.kg_row_types.specs.TextForms.{is_free_text, is_username}
@@ -16,7 +16,7 @@ use Rattle.kg_schema.proofs.ReadBackParts.{each_fits, Fits, fits_free, fits_user
 use Rattle.kg_schema.specs.Finished.{row_over}
 use Rattle.kg_schema.specs.ReadBack.{IsReadBack, changed_at, named_by}
 use Rattle.kg_shown_rows.specs.Shown.{consumer_members, shown}
-use Rattle.kg_shown_rows.specs.ShownParts.{members_of, shown_id, shown_number, shown_text}
+use Rattle.kg_shown_rows.specs.ShownParts.{members_of}
 
 module _ (consumer : Consumer) (valid : IsValidConsumer consumer) where
   username : IfSome consumer.username (Fits text_kind.Username)

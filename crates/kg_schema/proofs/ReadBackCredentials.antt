@@ -1,5 +1,5 @@
 -- Shown credentials and memberships make them again, but for a password.
-use Rattle.std.proofs.Common.{◌≡◌, ℕ, ◌<◌, ◌/◌, ◌==◌, nat_lt, nat_le, true, false, not, ◌&&◌, ◌||◌, List, [], ◌∷◌, length, codes, refl, ap, ap₂, ◌∙◌, arith}
+use Rattle.std.proofs.Common.{◌≡◌, ℕ, ◌<◌, ◌/◌, ◌==◌, nat_lt, nat_le, true, false, not, ◌&&◌, ◌||◌, List, [], ◌∷◌, length, refl, ap, ap₂, ◌∙◌, arith}
 use Rattle.std.proofs.lemmas.Bool.{and_from, and_parts, or_from}
 use Rattle.std.proofs.lemmas.Bool.Decides.{nat_tests}
 use Rattle.std.proofs.lemmas.List.Elements.{All-from_recursion}
@@ -9,7 +9,6 @@ use Rattle.std.specs.Char.{is_ascii_digit, is_control}
 use Rattle.std.specs.Int.{is_in_range}
 use Rattle.std.specs.List.{AllByRecursion, list_all, list_any}
 use Rattle.std.specs.Option.{option_map_or}
-use Rattle.serde_json.specs.Data.{string}
 use Rattle.kg_row_types.specs.StoredPassword.{stored_password}
 use Rattle.kg_row_types.specs.TextForms.{has_length, has_no_controls, is_free_text, is_hash}
 use Rattle.kg_row_types.specs.ValidRows.{IsValidAcl, IsValidBasicCred, IsValidKeyCred}
@@ -28,7 +27,7 @@ use Rattle.kg_schema.proofs.ReadBackParts.{Fits, fits_free, none_broken, printed
 use Rattle.kg_schema.specs.Finished.{row_over}
 use Rattle.kg_schema.specs.ReadBack.{IsReadBack, IsReadBackButPassword, changed_at, named_by}
 use Rattle.kg_shown_rows.specs.Shown.{acl_members, basic_members, key_members, shown}
-use Rattle.kg_shown_rows.specs.ShownParts.{members_of, shown_id, shown_number, shown_reference}
+use Rattle.kg_shown_rows.specs.ShownParts.{members_of}
 
 pub key_read_back : (credential : KeyCred) → IsValidKeyCred credential → IsReadBack (row.KeyCred credential)
 unfolding row_over text_in

@@ -1,7 +1,6 @@
 -- Shown headers of a route are read as the same headers, and break no rule.
-use Rattle.std.proofs.Common.{◌≡◌, ℕ, nat_lt, ◌==◌, if◌then◌else◌, Bool, true, false, not, ◌&&◌, List, [], ◌∷◌, ◌++◌, length, map, flat_map, fold, Option, Some, None, is_none, unwrap_or, codes, All, Result, Ok, Err, refl, sym, ap, ◌∙◌, append_assoc, append-nil, arith}
+use Rattle.std.proofs.Common.{◌≡◌, ℕ, nat_lt, if◌then◌else◌, Bool, true, false, not, ◌&&◌, List, [], ◌∷◌, ◌++◌, length, map, flat_map, fold, Some, None, is_none, unwrap_or, codes, All, Ok, Err, refl, sym, ap, ◌∙◌, append_assoc, append-nil}
 use Rattle.std.proofs.lemmas.Bool.{and_from, and_parts, or_from}
-use Rattle.std.proofs.lemmas.Bool.Decides.{nat_tests}
 use Rattle.std.proofs.lemmas.List.Elements.{All-head, All-tail}
 use Rattle.std.proofs.lemmas.Slice.Eq.{bytes_eq-Decides}
 use Rattle.std.specs.BTreeMap.{insert_entry}
@@ -10,13 +9,12 @@ use Rattle.std.specs.List.{AllByRecursion, list_any, prefix_len}
 use Rattle.std.specs.List.Sorted.{IsStrictlySortedBy}
 use Rattle.std.specs.Option.{option_map_or}
 use Rattle.std.specs.Ordering.{match_ordering, nat_cmp, ordering_reverse}
-use Rattle.std.specs.Prelude.{IsTrue, ⊤}
+use Rattle.std.specs.Prelude.{⊤}
 use Rattle.std.specs.Str.{bytes_eq, str_to_ascii_lowercase}
 use Rattle.std.specs.declared.cmp.Ordering.{Ordering}
 use Rattle.std.specs.declared.cmp.Ordering.TheVariants.{Less, Equal, Greater}
-use Rattle.serde_json.specs.Data.{Data, null, string, array, object, Members, no_members, member, put}
-use Rattle.serde_json.specs.View.{items_of}
-use Rattle.kg_text.specs.Names.{IsName, is_tchar, is_token, name_of}
+use Rattle.serde_json.specs.Data.{Data, no_members, member, put}
+use Rattle.kg_text.specs.Names.{IsName, is_tchar, is_token}
 use Rattle.kg_row_types.specs.TextForms.{are_distinct, is_free_text, is_list_of}
 use Rattle.kg_row_types.specs.TextForms.{is_set as is_some_set}
 use Rattle.kg_row_types.specs.ValidRows.{IsValidHeaderTest}
@@ -24,14 +22,12 @@ use Rattle.kg_row_types.specs.declared.route.HeaderTest.{HeaderTest}
 use Rattle.kg_bodies.specs.Settings.{test_of, tests_in, with_test}
 use Rattle.kg_field_rules.proofs.RuleLemmas.{nothing_broken}
 use Rattle.kg_field_rules.specs.Rules.{broken_if, first_by_rank}
-use Rattle.kg_field_rules.specs.declared.rule.Rule.{Rule}
 use Rattle.kg_field_rules.specs.declared.rule.Rule.TheVariants.{Repeated, Syntax, WrongType}
 use Rattle.kg_field_rules.specs.declared.text_kind.TextKind.TheVariants as text_kind
-use Rattle.kg_field_tables.specs.Judging.{each_text, header_breaks, header_rule, headers_rule, is_header, is_set, list_breaks, set_members, texts_of, values_breaks}
-use Rattle.kg_schema.proofs.ReadBackLists.{FitAll, each_text-shown, fit_all, over_nothing, shown_some}
+use Rattle.kg_field_tables.specs.Judging.{header_breaks, header_rule, headers_rule, is_header, is_set, list_breaks, set_members, texts_of, values_breaks}
+use Rattle.kg_schema.proofs.ReadBackLists.{FitAll, each_text-shown, fit_all, shown_some}
 use Rattle.kg_schema.proofs.ReadBackParts.{fits_free}
-use Rattle.kg_row_making.specs.FinishedConfigs.{list_over}
-use Rattle.kg_shown_rows.specs.Shown.{shown_headers, with_values}
+use Rattle.kg_shown_rows.specs.Shown.{with_values}
 use Rattle.kg_shown_rows.specs.ShownParts.{Named, members_of, shown_texts}
 
 -- ---- names in byte order

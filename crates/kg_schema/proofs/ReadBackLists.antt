@@ -1,17 +1,16 @@
 -- What shown lists of texts, numbers and protocols are read as, and that they break no rule.
-use Rattle.std.proofs.Common.{◌≡◌, ℕ, ◌<◌, ◌≤◌, ◌^◌, ◌==◌, nat_lt, nat_le, ℤ, pos, negsuc, neg_ℤ, int_le, ◌≤ℤ◌, T, if◌then◌else◌, Bool, true, false, not, ◌&&◌, ◌||◌, List, [], ◌∷◌, length, map, Option, Some, None, is_some, unwrap_or, option_map, option_and_then, refl, sym, ap, ◌∙◌, ltb→lt, leb→le, lt-ltb, arith}
+use Rattle.std.proofs.Common.{◌≡◌, ℕ, ◌≤◌, ◌^◌, ◌==◌, nat_lt, nat_le, ℤ, pos, negsuc, neg_ℤ, int_le, ◌≤ℤ◌, T, if◌then◌else◌, Bool, true, false, not, ◌&&◌, ◌||◌, List, [], ◌∷◌, length, map, Option, Some, None, is_some, unwrap_or, option_map, option_and_then, refl, ap, ◌∙◌, arith}
 use Rattle.std.proofs.lemmas.Bool.{and_from, and_parts, or_from}
 use Rattle.std.proofs.lemmas.Bool.Decides.{nat_tests}
 use Rattle.std.specs.List.{list_all, list_any}
 use Rattle.std.specs.Option.{option_map_or, option_or}
-use Rattle.std.specs.Prelude.{IfSome, IsTrue}
+use Rattle.std.specs.Prelude.{IfSome}
 use Rattle.serde_json.specs.Data.{Data, null, number, string, array}
 use Rattle.serde_json.specs.Find.{as_i64, as_number, of_integer}
 use Rattle.serde_json.specs.View.{items_of}
 use Rattle.kg_row_types.specs.TextForms.{are_distinct, is_list_of}
 use Rattle.kg_bodies.proofs.ListLemmas.{list_steps}
 use Rattle.kg_field_rules.specs.TextRules.{has_form, is_longer, stored}
-use Rattle.kg_field_rules.specs.declared.rule.Rule.{Rule}
 use Rattle.kg_field_rules.specs.declared.rule.Rule.TheVariants.{Empty, OutOfRange, Syntax, Repeated}
 use Rattle.kg_field_rules.specs.declared.text_kind.TextKind.{TextKind}
 use Rattle.kg_field_tables.specs.BrokenRules.{violations_inside}
@@ -19,7 +18,7 @@ use Rattle.kg_field_tables.specs.Judging.{each_text, judged, list_rule, texts_of
 use Rattle.kg_field_tables.specs.declared.table.Field.{Field}
 use Rattle.kg_field_tables.specs.declared.shape.Shape.TheVariants as shape
 use Rattle.kg_row_making.specs.FinishedConfigs.{list_over}
-use Rattle.kg_schema.proofs.ReadBackParts.{Fits, or_none, taken, whole_again, whole_of, whole_rule_ok}
+use Rattle.kg_schema.proofs.ReadBackParts.{Fits, taken, whole_again, whole_of, whole_rule_ok}
 use Rattle.kg_schema.proofs.ReadTexts.{text_parts}
 use Rattle.kg_shown_rows.specs.ShownParts.{shown_option, shown_texts}
 

@@ -1,6 +1,5 @@
 -- A shown plugin makes the plugin again.
-use Rattle.std.proofs.Common.{◌≡◌, ℕ, true, List, [], ◌∷◌, Option, Some, None, unwrap_or, codes, refl, ap, ◌∙◌}
-use Rattle.std.specs.Option.{option_or}
+use Rattle.std.proofs.Common.{◌≡◌, ℕ, List, [], Option, Some, None, unwrap_or, refl, ap, ◌∙◌}
 use Rattle.std.specs.Prelude.{IfSome}
 use Rattle.serde_json.specs.Data.{string}
 use Rattle.kg_row_types.specs.Ids.{IsId}
@@ -26,7 +25,7 @@ use Rattle.kg_row_making.specs.FinishedConfigs.{config_over, default_config}
 use Rattle.kg_schema.proofs.ReadBackConfigs.{config_read_back}
 use Rattle.kg_schema.proofs.ReadBackParts.{none_broken, or_none, printed_id, reference_rule}
 use Rattle.kg_schema.specs.Finished.{row_over}
-use Rattle.kg_schema.specs.ReadBack.{IsReadBack, changed_at, named_by}
+use Rattle.kg_schema.specs.ReadBack.{IsReadBack, named_by}
 use Rattle.kg_shown_rows.specs.Shown.{plugin_members, shown}
 use Rattle.kg_shown_rows.specs.ShownConfigs.{shown_config}
 use Rattle.kg_shown_rows.specs.ShownParts.{members_of, shown_link}

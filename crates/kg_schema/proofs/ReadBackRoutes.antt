@@ -9,8 +9,8 @@ use Rattle.std.specs.Option.{option_map_or}
 use Rattle.std.specs.Ordering.{nat_cmp}
 use Rattle.std.specs.Prelude.{IfSome}
 use Rattle.std.specs.Str.{bytes_eq, str_to_ascii_lowercase}
-use Rattle.serde_json.specs.Data.{Data, null, boolean, number, string, object, Members, no_members}
-use Rattle.serde_json.specs.Find.{as_object, of_integer}
+use Rattle.serde_json.specs.Data.{Data, null, object, no_members}
+use Rattle.serde_json.specs.Find.{as_object}
 use Rattle.kg_text.specs.Paths.{normal_form}
 use Rattle.kg_text.specs.SameBytes.{same_bytes}
 use Rattle.kg_row_types.specs.TextForms.{has_length, has_route_path_form, is_method, is_name, is_route_host, is_route_path, is_stored_route_host}
@@ -20,11 +20,11 @@ use Rattle.kg_row_types.specs.declared.entity.Entity.TheVariants as row
 use Rattle.kg_row_types.specs.declared.entity.Kind.TheVariants as kind
 use Rattle.kg_row_types.specs.declared.route.HeaderTest.{HeaderTest}
 use Rattle.kg_row_types.specs.declared.route.Route.{Route}
-use Rattle.kg_bodies.specs.Settings.{https_at, tests_in}
+use Rattle.kg_bodies.specs.Settings.{tests_in}
 use Rattle.kg_bodies.specs.TableSettings.{integer_in, text_in, texts_in}
 use Rattle.kg_field_rules.specs.declared.text_kind.TextKind.TheVariants as text_kind
 use Rattle.kg_field_tables.specs.BrokenRules.{violations_in, violations_inside}
-use Rattle.kg_field_tables.specs.Judging.{headers_rule, judged, texts_of}
+use Rattle.kg_field_tables.specs.Judging.{judged, texts_of}
 use Rattle.kg_field_tables.specs.declared.reference.Mention.TheVariants as mention
 use Rattle.kg_field_tables.specs.declared.shape.Shape.TheVariants as shape
 use Rattle.kg_field_tables.specs.declared.table.Field.{Field}

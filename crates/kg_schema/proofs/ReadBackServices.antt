@@ -1,7 +1,6 @@
 -- A shown service makes the service again.
-use Rattle.std.proofs.Common.{◌≡◌, ℕ, ◌≤◌, ◌/◌, List, [], Option, codes, refl, arith}
+use Rattle.std.proofs.Common.{◌≡◌, ℕ, ◌≤◌, ◌/◌, List, [], Option, refl, arith}
 use Rattle.std.specs.Prelude.{IfSome}
-use Rattle.serde_json.specs.Data.{boolean, string}
 use Rattle.kg_row_types.specs.ValidRows.{IsValidService}
 use Rattle.kg_row_types.specs.TextForms.{is_name, is_normal_path}
 use Rattle.kg_row_types.specs.declared.entity.Entity.{Entity}
@@ -17,7 +16,7 @@ use Rattle.kg_schema.proofs.ReadBackParts.{each_fits, Fits, fits_host, fits_name
 use Rattle.kg_schema.specs.Finished.{row_over}
 use Rattle.kg_schema.specs.ReadBack.{IsReadBack, changed_at, named_by}
 use Rattle.kg_shown_rows.specs.Shown.{service_members, shown}
-use Rattle.kg_shown_rows.specs.ShownParts.{members_of, shown_id, shown_number, shown_text}
+use Rattle.kg_shown_rows.specs.ShownParts.{members_of}
 
 module _ (service : Service) (valid : IsValidService service) where
   name : IfSome service.name (Fits text_kind.Name)

@@ -1,5 +1,5 @@
 -- A shown row is a body that makes the row again.
-use Rattle.std.specs.Prelude.{◌≡◌, ℕ, ◌/◌, [], Option, Some, None}
+use Rattle.std.specs.Prelude.{◌≡◌, ℕ, ◌/◌, [], Some, None}
 use Rattle.kg_row_types.specs.Entities.{id_of_row, kind_of}
 use Rattle.kg_row_types.specs.StoredPassword.{stored_password}
 use Rattle.kg_row_types.specs.ValidRows.{IsValidAcl, IsValidBasicCred, IsValidConsumer, IsValidKeyCred, IsValidPlugin, IsValidRoute, IsValidService}
