@@ -12,7 +12,7 @@ use Rattle.kg_row_changes.specs.Allowed.{has_named_rows, is_allowed, is_unused}
 use Rattle.kg_row_changes.specs.Claims.{claimed}
 use Rattle.kg_rows.specs.Decision.{base_by, own_id, Supply, Decides, decision, deletion, full, inserted, insertion, missing, needed, patched, proposed, put, put_over, replaced, still_named, taken_by_other, unless, violation}
 use Rattle.kg_rows.specs.References.{contradicted_field, dangling_field, fixed_links, link_of, links_in, links_of, targets_in}
-use Rattle.kg_rows.specs.Selections.{collection_of, rows_in, selected}
+use Rattle.kg_row_queries.specs.Selections.{collection_of, rows_in, selected}
 use Rattle.kg_row_values.specs.declared.command.Command.{Command}
 use Rattle.kg_row_values.specs.declared.command.Command.TheVariants as command
 use Rattle.kg_rows.specs.declared.draft.DecideError.{DecideError}
@@ -20,11 +20,11 @@ use Rattle.kg_rows.specs.declared.draft.Draft.{Draft}
 use Rattle.kg_rows.specs.declared.draft.Draft.TheVariants.{Insert, Patch, Put, Delete}
 use Rattle.kg_rows.specs.declared.draft.Refusal.{Refusal}
 use Rattle.kg_rows.specs.declared.draft.Refusal.TheVariants.{Full}
-use Rattle.kg_rows.specs.declared.collection.Collection.{Collection}
-use Rattle.kg_rows.specs.declared.select.Parent.{Parent}
-use Rattle.kg_rows.specs.declared.select.Select.{Select}
+use Rattle.kg_row_queries.specs.declared.collection.Collection.{Collection}
+use Rattle.kg_row_queries.specs.declared.select.Parent.{Parent}
+use Rattle.kg_row_queries.specs.declared.select.Select.{Select}
 use Rattle.kg_rows.proofs.AnswerLemmas.{needed_parts, ok_is, then_parts, unless_none, unless_rest, unmapped}
-use Rattle.kg_rows.proofs.FoundLemmas.{is_there}
+use Rattle.kg_row_queries.proofs.FoundLemmas.{is_there}
 use Rattle.kg_rows.proofs.FreeLemmas.{has_new_id, has_what_it_names, is_unique_new, is_unique_old, or_first, or_second}
 use Rattle.kg_rows.proofs.MadeLemmas.{id_over_again, id_over_old, kind_over}
 use Rattle.kg_row_making.specs.Bases.{BaseValue, Again, New, Old, made_at}

@@ -169,8 +169,8 @@ module _ (rows : RowLists) where
   abbrev group : AclRow → Option ℕ → List ℕ × Option ℕ
   group new replaced = (codes "group", holder (λ other. other.id) replaced (λ other. same_membership other new) rows.acls)
 
-  abbrev collection : PluginRow → Option ℕ → List ℕ × Option ℕ
-  collection new replaced = (codes "name", holder (λ other. other.id) replaced (λ other. same_name_and_scope other new) rows.plugins)
+  abbrev name_and_scope : PluginRow → Option ℕ → List ℕ × Option ℕ
+  name_and_scope new replaced = (codes "name", holder (λ other. other.id) replaced (λ other. same_name_and_scope other new) rows.plugins)
 
   free_of_others : (new : Entity) → claimed new None rows ≡ None → claimed new (Some (id_of_row new)) rows ≡ None
   free_of_others (row.Service new) none =
@@ -193,7 +193,7 @@ module _ (rows : RowLists) where
       two (group new None) (id_claim kind.Acl new.id None) (group new (Some new.id)) (id_claim kind.Acl new.id (Some new.id))
       (other_holder {X = AclRow} (λ other. other.id) new.id (λ other. same_membership other new) rows.acls) (other_id kind.Acl new.id) none
   free_of_others (row.Plugin new) none =
-      two (id_claim kind.Plugin new.id None) (collection new None) (id_claim kind.Plugin new.id (Some new.id)) (collection new (Some new.id)) (other_id kind.Plugin new.id)
+      two (id_claim kind.Plugin new.id None) (name_and_scope new None) (id_claim kind.Plugin new.id (Some new.id)) (name_and_scope new (Some new.id)) (other_id kind.Plugin new.id)
       (other_holder {X = PluginRow} (λ other. other.id) new.id (λ other. same_name_and_scope other new) rows.plugins) none
 
   -- a row in the place of one of its id, and a new one
@@ -217,4 +217,4 @@ module _ (rows : RowLists) where
   has_new_id (row.KeyCred new) none = new_id kind.KeyCred new.id (none_first (id_claim kind.KeyCred new.id None) (key new None ∷ []) none)
   has_new_id (row.BasicCred new) none = new_id kind.BasicCred new.id (none_first (id_claim kind.BasicCred new.id None) (login new None ∷ []) none)
   has_new_id (row.Acl new) none = new_id kind.Acl new.id (none_first (id_claim kind.Acl new.id None) [] (none_later (group new None) (id_claim kind.Acl new.id None ∷ []) none))
-  has_new_id (row.Plugin new) none = new_id kind.Plugin new.id (none_first (id_claim kind.Plugin new.id None) (collection new None ∷ []) none)
+  has_new_id (row.Plugin new) none = new_id kind.Plugin new.id (none_first (id_claim kind.Plugin new.id None) (name_and_scope new None ∷ []) none)

@@ -1,8 +1,5 @@
 mod AnswerLemmas
 mod DecidedLemmas
-mod FoundLemmas
 mod FreeLemmas
 mod MadeLemmas
-mod PageLemmas
 mod RefusalLemmas
-mod ValidFound

@@ -8,7 +8,8 @@ use Rattle.kg_row_types.specs.declared.entity.Kind.{Kind}
 use Rattle.kg_row_types.specs.declared.entity.Kind.TheVariants as kind
 use Rattle.kg_row_types.specs.declared.service.Service.{Service}
 use Rattle.kg_row_making.specs.Bases.{BaseValue, Again, Old, stamps_of}
-use Rattle.kg_schema.specs.Finished.{acl_before, address_over, basic_before, consumer_before, key_before, plugin_before, route_before, row_over, service_before}
+use Rattle.kg_row_making.specs.RowsBefore.{acl_before, basic_before, consumer_before, key_before, plugin_before, route_before, service_before}
+use Rattle.kg_schema.specs.Finished.{address_over, row_over}
 use Rattle.kg_bodies.specs.Settings.{url_at}
 use Rattle.kg_row_making.specs.declared.base.Links.{Links}
 use Rattle.kg_field_rules.specs.declared.url.Url.{Url}

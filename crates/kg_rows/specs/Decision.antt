@@ -16,7 +16,7 @@ use Rattle.kg_row_types.specs.declared.entity.Kind.TheVariants as kind
 use Rattle.kg_row_changes.specs.Allowed.{is_unused}
 use Rattle.kg_row_changes.specs.Claims.{claimed}
 use Rattle.kg_rows.specs.References.{contradicted_field, dangling_field, fixed_links, link_of, links_in, links_of, targets_in}
-use Rattle.kg_rows.specs.Selections.{collection_of, rows_in, selected}
+use Rattle.kg_row_queries.specs.Selections.{collection_of, rows_in, selected}
 use Rattle.kg_row_values.specs.declared.command.Command.{Command}
 use Rattle.kg_row_values.specs.declared.command.Command.TheVariants as command
 use Rattle.kg_rows.specs.declared.draft.DecideError.{DecideError}
@@ -26,9 +26,9 @@ use Rattle.kg_rows.specs.declared.draft.Draft.TheVariants.{Insert, Patch, Put, D
 use Rattle.kg_rows.specs.declared.draft.Refusal.{Refusal}
 use Rattle.kg_rows.specs.declared.draft.Refusal.TheVariants.{NotFound, Violation, Foreign, Unique, Full}
 use Rattle.kg_rows.specs.declared.target.Targets.{Targets}
-use Rattle.kg_rows.specs.declared.select.Parent.{Parent}
-use Rattle.kg_rows.specs.declared.select.Select.{Select}
-use Rattle.kg_rows.specs.declared.select.Select.TheVariants.{Id, Word}
+use Rattle.kg_row_queries.specs.declared.select.Parent.{Parent}
+use Rattle.kg_row_queries.specs.declared.select.Select.{Select}
+use Rattle.kg_row_queries.specs.declared.select.Select.TheVariants.{Id, Word}
 use Rattle.kg_row_making.specs.Bases.{BaseValue, made_at}
 use Rattle.kg_row_making.specs.Bases as base
 use Rattle.kg_schema.specs.Between.{accepts_word, violations_between}
@@ -57,7 +57,7 @@ and_then (Err refusal) next = Err refusal
 
 abbrev pub violation : List BrokenRule → Option Refusal
 violation [] = None
-violation (violation ∷ violations) = Some (Violation (listed (in_order (violation ∷ violations))))
+violation (broken ∷ more) = Some (Violation (listed (in_order (broken ∷ more))))
 
 abbrev pub missing : Option (List ℕ) → Option Refusal
 missing field = option_map (λ name. Foreign name false) field

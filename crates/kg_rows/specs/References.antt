@@ -10,12 +10,12 @@ use Rattle.kg_row_types.specs.declared.entity.Entity.{Entity}
 use Rattle.kg_row_types.specs.declared.entity.Entity.TheVariants as row
 use Rattle.kg_row_types.specs.declared.entity.Kind.{Kind}
 use Rattle.kg_row_types.specs.declared.entity.Kind.TheVariants as kind
-use Rattle.kg_rows.specs.Selections.{row_with_word}
+use Rattle.kg_row_queries.specs.Selections.{row_with_word}
 use Rattle.kg_rows.specs.declared.target.Target.{Target}
 use Rattle.kg_rows.specs.declared.target.Target.TheVariants.{Unset, Missing, Row}
 use Rattle.kg_rows.specs.declared.target.Targets.{Targets}
-use Rattle.kg_rows.specs.declared.collection.Collection.{Collection}
-use Rattle.kg_rows.specs.declared.collection.Collection.TheVariants.{Anywhere, Under}
+use Rattle.kg_row_queries.specs.declared.collection.Collection.{Collection}
+use Rattle.kg_row_queries.specs.declared.collection.Collection.TheVariants.{Anywhere, Under}
 use Rattle.kg_bodies.specs.Settings.{reference_at}
 use Rattle.kg_row_making.specs.declared.base.Links.{Links}
 use Rattle.kg_row_making.specs.declared.base.ParentField.{ParentField}

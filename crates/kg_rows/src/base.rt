@@ -2,11 +2,12 @@
 
 ghost use Rattle.std.specs.Prelude.{◌≡◌, IfOk, IfSome, option_map};
 ghost use Rattle.kg_rows.specs.Decision.{base_by, base_by_text, base_by_word, own_id};
-ghost use Rattle.kg_row_making.specs.Bases.{base_of};
+ghost use Rattle.kg_row_making.specs.Bases.{base_of, made_at};
+ghost use Rattle.kg_row_queries.specs.RowRefs.{row_at};
 ghost use Rattle.kg_schema.specs.ValidBases.{IsValidBase};
 
-use crate::select::Select;
 use kg_entities::{Id, Kind};
+use kg_row_queries::{RowRef, Select};
 use kg_schema::{Base, accepts_word};
 use kg_text::{NoMemory, Text};
 use std::alloc::Global;
@@ -88,5 +89,20 @@ pub fn own_id(base: &Base<'_>) -> Id
         Base::Again { id, .. } => *id,
         Base::Word { id, .. } => *id,
         Base::Old { row, .. } => row.id(),
+    }
+}
+
+/// The time at which a row was made, in seconds.
+pub fn made_at(row: &RowRef<'_>) -> u64
+    ensures { result ≡ made_at (row_at row.now) }
+{
+    match row {
+        RowRef::Service(row) => row.created_at,
+        RowRef::Route(row) => row.created_at,
+        RowRef::Consumer(row) => row.created_at,
+        RowRef::KeyCred(row) => row.created_at,
+        RowRef::BasicCred(row) => row.created_at,
+        RowRef::Acl(row) => row.created_at,
+        RowRef::Plugin(row) => row.created_at,
     }
 }

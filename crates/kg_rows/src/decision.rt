@@ -1,6 +1,6 @@
 //! What is decided of a change that is asked for.
 
-ghost use Rattle.std.specs.Prelude.{◌≡◌, Ok, IfOk, IfSome, IsTrue, option_map};
+ghost use Rattle.std.specs.Prelude.{◌≡◌, Ok, IfOk, IsTrue};
 ghost use Rattle.serde_json.specs.View.{view};
 ghost use Rattle.kg_row_changes.specs.Allowed.{is_allowed};
 ghost use Rattle.kg_rows.specs.Decision.{Decides, IsProper, decision, deletion, insertion, patched, put_over, replaced, still_named, unless};
@@ -10,18 +10,17 @@ ghost use Rattle.kg_row_making.specs.Bases.{made_at};
 ghost use Rattle.kg_row_types.specs.Entities.{id_of_row};
 ghost use Rattle.kg_row_types.specs.ValidRows.{AreValidRows, IsValidRow};
 ghost use Rattle.kg_row_changes.specs.ValidCommands.{IsValidCommand};
-ghost use Rattle.kg_rows.specs.RowRefs.{row_at};
-ghost use Rattle.kg_rows.specs.Selections.{rows_in, selected};
+ghost use Rattle.kg_row_queries.specs.RowRefs.{row_at};
+ghost use Rattle.kg_row_queries.specs.Selections.{rows_in, selected};
 ghost use Rattle.kg_row_values.specs.declared.command.Command.TheVariants as command;
 
-use crate::base::base_by;
-use crate::collection::{Collection, collection_of, link_of, selected_in};
+use crate::base::{base_by, made_at};
 use crate::draft::{DecideError, Draft, Refusal};
+use crate::links::link_of;
 use crate::proposal::{inserted, replaced};
-use crate::row_ref::RowRef;
-use crate::select::{Parent, Select};
 use kg_entities::{Id, Kind, Rows};
 use kg_row_changes::admit::is_unused;
+use kg_row_queries::{Collection, Parent, RowRef, Select, collection_of, selected_in};
 use kg_row_values::command::Command;
 use kg_schema::{Base, Form, Links};
 use kg_text::{NoMemory, Text};
@@ -124,25 +123,12 @@ fn patched(
     ensures valid { AreValidRows rows.now → IfOk result IsValidCommand }
 {
     match collection_of(rows, parent) {
-        Some(collection) => match present(rows, kind, &collection, select) {
+        Some(collection) => match selected_in(rows, kind, &collection, select) {
             Some(old) => changed(alloc, rows, form, &link_of(&collection), old, now),
             None => Err(DecideError::Refused(Refusal::NotFound)),
         },
         None => Err(DecideError::Refused(Refusal::NotFound)),
     }
-}
-
-// The row that is meant, among those in a place; it is valid where all are.
-fn present<'r>(
-    rows: &'r Rows,
-    kind: Kind,
-    collection: &Collection,
-    select: &Select,
-) -> Option<RowRef<'r>>
-    ensures row { option_map row_at result ≡ selected kind select.now (rows_in collection.now rows.now) }
-    ensures valid { AreValidRows rows.now → IfSome result (λ row. IsValidRow (row_at row)) }
-{
-    selected_in(rows, kind, collection, select)
 }
 
 // The fields of a row that the form sets are changed.
@@ -203,7 +189,7 @@ fn put_again(
     ensures valid { IfOk result IsValidCommand }
 {
     let id = old.id();
-    let created_at = old.made_at();
+    let created_at = made_at(&old);
     let base = Base::Again {
         id,
         created_at,

@@ -3,8 +3,8 @@
 ghost use Rattle.std.specs.Prelude.{◌≡◌};
 ghost use Rattle.kg_rows.specs.declared.draft.DecideError.TheVariants.{NoMemory as OutOfMemory};
 
-use crate::select::{Parent, Select};
 use kg_entities::{Id, Kind};
+use kg_row_queries::{Parent, Select};
 use kg_schema::{Broken, Form};
 use kg_text::{List, NoMemory, Text};
 use std::alloc::{AllocError, AllocFailed};
@@ -47,7 +47,7 @@ pub enum Draft {
 }
 
 /// Why a change is refused.
-#[derive(Debug, PartialEq, Drop)]
+#[derive(Drop)]
 pub enum Refusal {
     /// The row that is meant, or its parent, isn't there.
     NotFound,
@@ -64,7 +64,7 @@ pub enum Refusal {
 }
 
 /// Why no command is decided.
-#[derive(Debug, PartialEq, Drop)]
+#[derive(Drop)]
 pub enum DecideError {
     Refused(Refusal),
     NoMemory,

@@ -5,30 +5,26 @@
 #![tactic(auto)]
 
 mod base;
-mod collection;
 mod decision;
 mod draft;
-mod find;
-mod pages;
+mod links;
 mod proposal;
-mod row_ref;
-mod select;
 mod target;
-mod under;
 
 pub use crate::decision::decide;
 pub use crate::draft::{DecideError, Draft, Refusal};
-pub use crate::pages::{Page, found, page_of};
-pub use crate::select::{Parent, Select};
 pub use kg_row_changes::admit::allowed;
 pub use kg_row_changes::change::apply;
 pub use kg_row_changes::laws::{
     allowed_commands_make_valid_rows, last_command_changes_what_differs,
 };
+pub use kg_row_queries::{Page, Parent, Select, found, page_of};
 pub use kg_row_values::command::Command;
 pub use kg_row_values::laws::{
     later_commands_leave_earlier_places, one_more_command_changes_the_rows,
-    texts_in_byte_order_are_the_texts, unnamed_keys_keep_their_values,
+    texts_in_byte_order_are_the_texts, touched_lists_name_what_commits_change,
+    unnamed_generations_keep_their_values, unnamed_keys_keep_their_values,
+    values_stay_until_a_commit_names_them,
 };
 pub use kg_row_values::touched::Touched;
 pub use kg_row_values::value::value_of;

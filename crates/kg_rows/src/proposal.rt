@@ -3,7 +3,7 @@
 ghost use Rattle.std.specs.Prelude.{◌≡◌, None, Some, Ok, IfOk, IfErr, OnOk, option_map};
 ghost use Rattle.serde_json.specs.View.{view};
 ghost use Rattle.kg_rows.specs.Decision.{IsRefusedBy, Decides, Refuses, conflict, inserted, missing, proposed, replaced, taken_by_other, violation};
-ghost use Rattle.kg_rows.specs.RowRefs.{row_at};
+ghost use Rattle.kg_row_queries.specs.RowRefs.{row_at};
 ghost use Rattle.kg_row_making.specs.Bases.{base_of};
 ghost use Rattle.kg_row_types.specs.Entities.{id_of_row};
 ghost use Rattle.kg_schema.specs.Between.{violations_between};
@@ -14,12 +14,12 @@ ghost use Rattle.kg_row_types.specs.ValidRows.{IsValidRow};
 
 use crate::base::own_id;
 use crate::draft::{DecideError, Refusal};
-use crate::row_ref::RowRef;
 use crate::target::{
     Targets, contradicted_field, dangling_field, fixed_links, links_in, links_of, targets_in,
 };
 use kg_entities::{Entity, Id, Rows};
 use kg_row_changes::claims::claimed;
+use kg_row_queries::RowRef;
 use kg_row_values::command::Command;
 use kg_schema::{Base, Form, FormError, Links, ParentField, finish_under};
 use kg_text::{NoMemory, Text};
@@ -84,6 +84,7 @@ fn proposed(
     ensures valid { IsValidBase form.now.kind (base_of base.now) → IfOk result IsValidRow }
 {
     let targets = targets_in(alloc, rows, form)?;
+    // read for the proof alone, which has to know the field's type
     let _service = targets.service;
     let links = links_in(own_id(base), above, &targets);
     let field = contradicted_field(&fixed_links(above, present), &targets);

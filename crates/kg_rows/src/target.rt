@@ -4,18 +4,18 @@ ghost use Rattle.std.specs.Prelude.{◌≡◌, None, Some, IfOk, option_map};
 ghost use Rattle.std.specs.Option.{option_or};
 ghost use Rattle.serde_json.specs.View.{view};
 ghost use Rattle.kg_row_types.specs.declared.entity.Kind.TheVariants as kind;
-ghost use Rattle.kg_rows.specs.RowRefs.{row_at};
+ghost use Rattle.kg_row_queries.specs.RowRefs.{row_at};
 ghost use Rattle.kg_rows.specs.References.{contradicted_field, contradicts, dangling_field, fixed_links, is_dangling, is_missing, linked, links_in, links_of, target_id, target_if_set, targets_in};
 
-use crate::collection::no_links;
-use crate::row_ref::RowRef;
+use crate::links::{no_links, owner_of};
 use kg_entities::{Entity, Id, Kind, Rows};
+use kg_row_queries::RowRef;
 use kg_schema::{Form, Links, ParentField, Reference};
 use kg_text::NoMemory;
 use std::alloc::Global;
 
 /// At what a reference of a body points.
-#[derive(Clone, Copy, Debug, PartialEq, Eq)]
+#[derive(Clone, Copy)]
 pub enum Target {
     /// The body doesn't set the reference.
     Unset,
@@ -26,7 +26,7 @@ pub enum Target {
 }
 
 /// At what each reference of a body points.
-#[derive(Clone, Copy, Debug, PartialEq, Eq)]
+#[derive(Clone, Copy)]
 pub struct Targets {
     pub service: Target,
     pub route: Target,
@@ -118,7 +118,7 @@ pub fn fixed_links(above: &Links, present: Option<RowRef<'_>>) -> Links
     ensures { result ≡ fixed_links above.now (option_map row_at present.entry) }
 {
     match present {
-        Some(row) => with_owner(above, row.owner()),
+        Some(row) => with_owner(above, owner_of(&row)),
         None => with_owner(above, None),
     }
 }

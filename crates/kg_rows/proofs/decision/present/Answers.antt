@@ -1,6 +1,0 @@
-use Rattle.kg_rows.proofs.ValidFound.{found_valid}
-use Rattle.kg_rows.proofs.decision.present.Goals as goal
-
--- a row that was found is valid where all are
-pub returns-clause-valid : goal.returns-clause-valid
-returns-clause-valid c = λ valid. found_valid c.args.rows.now c.args.kind c.args.collection.now c.args.select.now c.selected_in.result c.selected_in.ensures valid
