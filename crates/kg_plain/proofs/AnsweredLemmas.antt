@@ -1,0 +1,442 @@
+-- How the answered requests of a connection grow by one, how the answering ends, and what is written when
+-- it is cut short.
+use Rattle.std.proofs.Common.{◌≡◌, ℕ, ◌+◌, ◌<◌, ◌≤◌, ◌==◌, inl, inr, Bool, true, false, List, [], ◌∷◌, ◌++◌, Option, Some, None, Result, Ok, Err, IfOk, OnOk, OnErr, length, take, drop, refl, sym, ap, subst, ◌∙◌, arith}
+use Rattle.std.proofs.lemmas.List.{append_assoc, append-nil, length-append, take-append-drop}
+use Rattle.std.proofs.lemmas.Grind.{flat_map-append}
+use Rattle.std.specs.List.{flat_map, AllByRecursion}
+use Rattle.kg_message.specs.declared.request.Request.{Request}
+use Rattle.kg_outside.specs.Moves.{with_front, with_end}
+use Rattle.kg_outside.proofs.Observed.{with_front-nil, with_front-append, with_end-nil, with_end-append}
+use Rattle.kg_router.specs.RouterRows.{RouterRows}
+use Rattle.kg_print.specs.Connection.{asks_for_end}
+use Rattle.kg_wire.specs.Messages.{Message, IsRequest, print_message, request_of}
+use Rattle.kg_wire.specs.Reading.{ReaderState, Takes, Grows, Refuses, IsEnded, IsNothing}
+use Rattle.kg_wire.specs.Refusals.{IsBad, IsCut}
+use Rattle.kg_wire.proofs.RefusalLemmas.{bad_stays}
+use Rattle.kg_wire.specs.declared.reader.ReadError.TheVariants.{Bad as BadMessage, Cut as CutMessage}
+use Rattle.kg_plain.specs.Answered.{Answered, AnsweredOn, AnswersAll, AnswersFront, AnswersNext, EndsAhead, EndsAt, IsReplied, StopsNext, asked_end}
+use Rattle.kg_plain.specs.Fronts.{IsFront}
+use Rattle.kg_plain.specs.Plain.{bad_request_text, reply_to}
+use Rattle.kg_plain.specs.Replies.{BeginsReply, StopsIn, asks, local_address, most_requests, texts}
+use Rattle.kg_plain.specs.declared.answers.End.{End}
+use Rattle.kg_plain.specs.declared.answers.End.TheVariants.{Closed, Asked, Spent, Bad, Cut}
+
+-- one more reply at the end
+pub texts-push : (rows : RouterRows) (answered n : ℕ) (ms : List Message) (m : Message) → n ≡ answered + length ms
+    → texts rows answered (ms ++ m ∷ []) ≡ texts rows answered ms ++ reply_to rows (n + 1 == most_requests) (request_of local_address m)
+texts-push rows answered n [] m is =
+    let e : answered ≡ n = omega arith in
+    append-nil (reply_to rows (answered + 1 == most_requests) (request_of local_address m))
+    ∙ ap (λ k. reply_to rows (k + 1 == most_requests) (request_of local_address m)) e
+texts-push rows answered n (x ∷ ms) m is =
+    let first = reply_to rows (answered + 1 == most_requests) (request_of local_address x) in
+    ap (λ t. first ++ t) (texts-push rows (answered + 1) n ms m (omega arith))
+    ∙ sym (append_assoc first (texts rows (answered + 1) ms) (reply_to rows (n + 1 == most_requests) (request_of local_address m)))
+
+-- what holds of each member holds of one more
+pub each-push : {X : Type 0} (P : X → Type 0) (xs : List X) (x : X) → AllByRecursion P xs → P x → AllByRecursion P (xs ++ x ∷ [])
+each-push P [] x all here = (here, tt)
+each-push P (y ∷ ys) x all here = (all.0, each-push P ys x all.1 here)
+
+-- no request was answered yet
+pub none_answered : (rows : RouterRows) (Read : List ℕ → Type 0) (ahead_before ahead_now written : Option (List ℕ)) (at : ℕ)
+    → Read [] → ahead_before ≡ ahead_now → at ≡ 0 → AnsweredOn rows Read ahead_before ahead_now written written 0 at
+none_answered rows Read ahead_before ahead_now written at read same start = record {
+  messages = [];
+  counted = refl;
+  at_is = start;
+  on = tt;
+  answered = record {
+    times = [];
+    one_each = refl;
+    read = read;
+    each = tt;
+    whole = same ∙ sym (with_front-nil ahead_now);
+    written = sym (with_end-nil written);
+  };
+}
+
+-- one request more was read, in front of what is ahead now
+pub moved_on : (a b c : Option (List ℕ)) (ms : List Message) (m : Message)
+    → a ≡ with_front (flat_map print_message ms) b → b ≡ with_front (print_message m) c
+    → a ≡ with_front (flat_map print_message (ms ++ m ∷ [])) c
+moved_on a b c ms m whole next =
+    whole
+    ∙ ap (with_front (flat_map print_message ms)) next
+    ∙ sym (with_front-append (flat_map print_message ms) (print_message m) c)
+    ∙ ap (λ bytes. with_front bytes c)
+    (ap (λ t. flat_map print_message ms ++ t) (sym (append-nil (print_message m)))
+    ∙ sym (flat_map-append print_message ms (m ∷ [])))
+
+-- what holds, holds of each result
+pub on_ok : {T E P : Type 0} (result : Result T E) → P → OnOk result P
+on_ok (Ok x) p = p
+on_ok (Err e) p = tt
+
+pub on_err : {T E P : Type 0} (result : Result T E) → P → OnErr result P
+on_err (Ok x) p = tt
+on_err (Err e) p = p
+
+-- what was written of a text is a front of it
+pub front_written : (before now : Option (List ℕ)) (bytes text : List ℕ) → bytes ≡ text
+    → ((n : ℕ) × (n ≤ length bytes) × (now ≡ with_end before (take n bytes)))
+    → (front : List ℕ) × IsFront front text × (now ≡ with_end before front)
+front_written before now bytes text same (n, within, written) =
+    (take n bytes, (drop n bytes, sym same ∙ sym (take-append-drop n bytes)), written)
+
+-- ---- the next message
+
+-- the request that the reader took is in front of what it holds then
+taken_next : (before now : ReaderState) (left later : Option (List ℕ)) (request : Request) (t : Takes before now left later request)
+    → with_front before.held left ≡ with_front (print_message t.message) (with_front now.held later)
+taken_next before now left later request t = t.moved ∙ with_front-append (print_message t.message) now.held later
+
+-- and it is the request that its message spells, from the local address
+taken_means : (before now : ReaderState) (left later : Option (List ℕ)) (request : Request) (t : Takes before now left later request)
+    → before.address ≡ local_address → request ≡ request_of local_address t.message
+taken_means before now left later request t here = t.means ∙ ap (λ address. request_of address t.message) here
+
+-- it got its reply, and the connection goes on, or ends where it asks for that
+taken_replied : (rows : RouterRows) (Read : List ℕ → Type 0) (answered : ℕ) (before now : ReaderState) (left later w0 w1 : Option (List ℕ))
+    (request : Request) (time : ℕ) (end : Option End)
+    → before.address ≡ local_address → Takes before now left later request → Read (time ∷ [])
+    → w1 ≡ with_end w0 (reply_to rows (answered + 1 == most_requests) request) → end ≡ asked_end (asks_for_end request)
+    → AnswersNext rows Read answered before.at now.at (with_front before.held left) (with_front now.held later) w0 w1 end
+taken_replied rows Read answered before now left later w0 w1 request time end here t read reply is =
+    by_asked (asks_for_end request) refl end is
+  where
+    means : request ≡ request_of local_address t.message
+    means = taken_means before now left later request t here
+
+    replied : (asked : Bool) → asks_for_end request ≡ asked
+        → IsReplied rows Read answered before.at now.at (with_front before.held left) (with_front now.held later) w0 w1 asked
+    replied asked asking = record {
+      message = t.message;
+      time = time;
+      is = t.is;
+      asking = ap asks_for_end (sym means) ∙ asking;
+      read = read;
+      next = taken_next before now left later request t;
+      at = t.at;
+      written = reply ∙ ap (λ q. with_end w0 (reply_to rows (answered + 1 == most_requests) q)) means;
+    }
+
+    by_asked : (asked : Bool) → asks_for_end request ≡ asked → (end : Option End) → end ≡ asked_end (asks_for_end request)
+        → AnswersNext rows Read answered before.at now.at (with_front before.held left) (with_front now.held later) w0 w1 end
+    by_asked true asking end is =
+        subst (AnswersNext rows Read answered before.at now.at (with_front before.held left) (with_front now.held later) w0 w1)
+        (sym (is ∙ ap asked_end asking)) (replied true asking)
+    by_asked false asking end is =
+        subst (AnswersNext rows Read answered before.at now.at (with_front before.held left) (with_front now.held later) w0 w1)
+        (sym (is ∙ ap asked_end asking)) (replied false asking)
+
+-- what is observable ahead begins with the request that the reader took
+taken_stands : (before now : ReaderState) (left later : Option (List ℕ)) (request : Request) (t : Takes before now left later request)
+    → (rest : List ℕ) → with_front before.held left ≡ Some rest → (behind : List ℕ) × (rest ≡ print_message t.message ++ behind)
+taken_stands before now left later request t rest seen =
+    by_cases (with_front now.held later) (sym seen ∙ taken_next before now left later request t)
+  where
+    by_cases : (ahead : Option (List ℕ)) → Some rest ≡ with_front (print_message t.message) ahead
+        → (behind : List ℕ) × (rest ≡ print_message t.message ++ behind)
+    by_cases None e = absurd (cc)
+    by_cases (Some behind) e = (behind, cc)
+
+-- the reply to it was cut short
+taken_stopped : (rows : RouterRows) (Read : List ℕ → Type 0) (answered : ℕ) (before now : ReaderState) (left later w0 w1 : Option (List ℕ))
+    (request : Request) (time : ℕ) (front : List ℕ)
+    → before.address ≡ local_address → Takes before now left later request → Read (time ∷ [])
+    → IsFront front (reply_to rows (answered + 1 == most_requests) request) → w1 ≡ with_end w0 front
+    → StopsNext rows Read answered (with_front before.held left) w0 w1
+taken_stopped rows Read answered before now left later w0 w1 request time front here t read begins written = record {
+  times = time ∷ [];
+  read = read;
+  part = front;
+  stops = λ rest seen. inr (inl (refl, begun rest (taken_stands before now left later request t rest seen)));
+  written = written;
+}
+  where
+    begun : (rest : List ℕ) → (behind : List ℕ) × (rest ≡ print_message t.message ++ behind) → BeginsReply rows answered rest front
+    begun rest (behind, stands) = record {
+      next = t.message;
+      behind = behind;
+      is = t.is;
+      stands = stands;
+      begins = subst (λ q. IsFront front (reply_to rows (answered + 1 == most_requests) q)) (taken_means before now left later request t here) begins;
+    }
+
+-- so it was answered, or its reply was cut short
+pub taken_ok : {E : Type 0} (result : Result (Option End) E) (rows : RouterRows) (Read : List ℕ → Type 0) (answered : ℕ) (before now : ReaderState)
+    (left later w0 w1 : Option (List ℕ)) (request : Request) (time : ℕ)
+    → before.address ≡ local_address → Takes before now left later request → Read (time ∷ [])
+    → OnOk result (w1 ≡ with_end w0 (reply_to rows (answered + 1 == most_requests) request))
+    → IfOk result (λ end. end ≡ asked_end (asks_for_end request))
+    → IfOk result (AnswersNext rows Read answered before.at now.at (with_front before.held left) (with_front now.held later) w0 w1)
+taken_ok (Ok end) rows Read answered before now left later w0 w1 request time here t read reply is =
+    taken_replied rows Read answered before now left later w0 w1 request time end here t read reply is
+taken_ok (Err e) rows Read answered before now left later w0 w1 request time here t read reply is = tt
+
+pub taken_err : {E : Type 0} (result : Result (Option End) E) (rows : RouterRows) (Read : List ℕ → Type 0) (answered : ℕ) (before now : ReaderState)
+    (left later w0 w1 : Option (List ℕ)) (request : Request) (time : ℕ)
+    → before.address ≡ local_address → Takes before now left later request → Read (time ∷ [])
+    → OnErr result ((front : List ℕ) × IsFront front (reply_to rows (answered + 1 == most_requests) request) × (w1 ≡ with_end w0 front))
+    → OnErr result (StopsNext rows Read answered (with_front before.held left) w0 w1)
+taken_err (Ok end) rows Read answered before now left later w0 w1 request time here t read front = tt
+taken_err (Err e) rows Read answered before now left later w0 w1 request time here t read front =
+    taken_stopped rows Read answered before now left later w0 w1 request time front.0 here t read front.1 front.2
+
+-- nothing was written
+pub nothing_stopped : (rows : RouterRows) (Read : List ℕ → Type 0) (answered : ℕ) (ahead written : Option (List ℕ)) → Read []
+    → StopsNext rows Read answered ahead written written
+nothing_stopped rows Read answered ahead written read = record {
+  times = [];
+  read = read;
+  part = [];
+  stops = λ rest seen. inl (omega arith, refl);
+  written = sym (with_end-nil written);
+}
+
+-- the text that answers a refused message was cut short
+bad_stopped : (rows : RouterRows) (Read : List ℕ → Type 0) (answered : ℕ) (ahead w0 w1 : Option (List ℕ)) (front : List ℕ) → Read []
+    → ((rest : List ℕ) → ahead ≡ Some rest → IsBad rest) → IsFront front bad_request_text → w1 ≡ with_end w0 front
+    → StopsNext rows Read answered ahead w0 w1
+bad_stopped rows Read answered ahead w0 w1 front read bad begins written = record {
+  times = [];
+  read = read;
+  part = front;
+  stops = λ rest seen. inr (inr (omega arith, bad rest seen, begins));
+  written = written;
+}
+
+-- the text that answers a refused message was written, or cut short
+pub bad_ok : {E : Type 0} (result : Result (Option End) E) (rows : RouterRows) (Read : List ℕ → Type 0) (answered at at_now place : ℕ)
+    (ahead later w0 w1 : Option (List ℕ)) → Read [] → ((rest : List ℕ) → ahead ≡ Some rest → IsBad rest) → place ≡ at
+    → IfOk result (λ end. (end ≡ Some (Bad place)) × (w1 ≡ with_end w0 bad_request_text))
+    → IfOk result (AnswersNext rows Read answered at at_now ahead later w0 w1)
+bad_ok (Ok end) rows Read answered at at_now place ahead later w0 w1 read bad here ok =
+    subst (AnswersNext rows Read answered at at_now ahead later w0 w1) (sym ok.0)
+    (here, record { read = read; is = bad; written = ok.1 })
+bad_ok (Err e) rows Read answered at at_now place ahead later w0 w1 read bad here ok = tt
+
+pub bad_err : {E : Type 0} (result : Result (Option End) E) (rows : RouterRows) (Read : List ℕ → Type 0) (answered : ℕ)
+    (ahead w0 w1 : Option (List ℕ)) → Read [] → ((rest : List ℕ) → ahead ≡ Some rest → IsBad rest)
+    → OnErr result ((front : List ℕ) × IsFront front bad_request_text × (w1 ≡ with_end w0 front))
+    → OnErr result (StopsNext rows Read answered ahead w0 w1)
+bad_err (Ok end) rows Read answered ahead w0 w1 read bad front = tt
+bad_err (Err e) rows Read answered ahead w0 w1 read bad front =
+    bad_stopped rows Read answered ahead w0 w1 front.0 read bad front.1 front.2
+
+-- the source ended between two messages
+pub closed_next : (Read : List ℕ → Type 0) (before now : ReaderState) (left later written : Option (List ℕ)) → Read []
+    → IsNothing before now left later → EndsAt Read (λ rest. rest ≡ []) (with_front before.held left) written written Closed
+closed_next Read before now left later written read nothing = record {
+  read = read;
+  is = λ rest seen. nothing.ended rest
+      (nothing.left ∙ sym (with_front-nil left) ∙ ap (λ held. with_front held left) (sym nothing.none_held) ∙ seen);
+  written = sym (with_end-nil written);
+}
+
+-- what is ahead stays the same while the reader reads
+grown_ahead : (held now : List ℕ) (left later : Option (List ℕ)) → Grows held now left later → with_front held left ≡ with_front now later
+grown_ahead held now left later grows =
+    ap (with_front held) grows.moved
+    ∙ sym (with_front-append held grows.piece later)
+    ∙ ap (λ bytes. with_front bytes later) (sym grows.grown)
+
+-- the bytes ahead are refused
+pub refused_ahead : (at place : ℕ) (held now : List ℕ) (left later : Option (List ℕ))
+    → Grows held now left later → Refuses at now later (BadMessage place) → (rest : List ℕ) → with_front held left ≡ Some rest → IsBad rest
+refused_ahead at place held now left later grows bad rest ahead =
+    by_cases later (sym ahead ∙ grown_ahead held now left later grows)
+  where
+    by_cases : (later : Option (List ℕ)) → Some rest ≡ with_front now later → IsBad rest
+    by_cases None e = absurd (cc)
+    by_cases (Some more) e =
+        let same : rest ≡ now ++ more = cc in
+        subst IsBad (sym same) (bad_stays now more bad.1)
+
+-- the bytes ahead are cut short
+pub cut_next : (Read : List ℕ → Type 0) (at have : ℕ) (held now : List ℕ) (left later written : Option (List ℕ)) → Read []
+    → Grows held now left later → Refuses at now later (CutMessage have)
+    → EndsAt Read (λ rest. IsCut rest × (have ≡ length rest)) (with_front held left) written written (Cut have)
+cut_next Read at have held now left later written read grows cut = record {
+  read = read;
+  is = λ rest ahead. by_cases rest later cut.2 (sym ahead ∙ grown_ahead held now left later grows);
+  written = sym (with_end-nil written);
+}
+  where
+    by_cases : (rest : List ℕ) (later : Option (List ℕ)) → IsEnded later → Some rest ≡ with_front now later → IsCut rest × (have ≡ length rest)
+    by_cases rest None ended e = absurd (cc)
+    by_cases rest (Some more) ended e =
+        let none : more ≡ [] = ended more refl in
+        let same : rest ≡ now ++ more = cc in
+        let held : rest ≡ now = same ∙ ap (λ t. now ++ t) none ∙ append-nil now in
+        (subst IsCut (sym held) cut.1, cut.0 ∙ ap length (sym held))
+
+-- ---- all messages
+
+-- the readings of the clock before the next message and then for it are all its readings
+abbrev ReadsOn : (List ℕ → Type 0) → (List ℕ → Type 0) → (List ℕ → Type 0) → Type 0
+ReadsOn Before Once Now = (times more : List ℕ) → Before times → Once more → Now (times ++ more)
+
+-- one request more was answered
+answers_one_more : (rows : RouterRows) (Before Once Now : List ℕ → Type 0) (a b c w0 w1 w2 : Option (List ℕ)) (ms : List Message) (n at place : ℕ)
+    (asked : Bool) → length ms ≡ n → ReadsOn Before Once Now
+    → Answered rows Before a b w0 w1 ms → (is : IsReplied rows Once n at place b c w1 w2 asked)
+    → Answered rows Now a c w0 w2 (ms ++ is.message ∷ [])
+answers_one_more rows Before Once Now a b c w0 w1 w2 ms n at place asked counted on before is = record {
+  times = before.times ++ is.time ∷ [];
+  one_each = simp length-append (let e = before.one_each in omega arith);
+  read = on before.times (is.time ∷ []) before.read is.read;
+  each = each-push IsRequest ms is.message before.each is.is;
+  whole = moved_on a b c ms is.message before.whole is.next;
+  written =
+      is.written
+      ∙ ap (λ w. with_end w (reply_to rows (n + 1 == most_requests) (request_of local_address is.message))) before.written
+      ∙ sym (with_end-append w0 (texts rows 0 ms) (reply_to rows (n + 1 == most_requests) (request_of local_address is.message)))
+      ∙ ap (with_end w0) (sym (texts-push rows 0 n ms is.message (let e = counted in omega arith)));
+}
+
+-- so many bytes more were read
+place_more : (ms : List Message) (m : Message) (at place : ℕ) → at ≡ length (flat_map print_message ms) → place ≡ at + length (print_message m)
+    → place ≡ length (flat_map print_message (ms ++ m ∷ []))
+place_more ms m at place before now =
+    let size = ap length (flat_map-append print_message ms (m ∷ []) ∙ ap (λ t. flat_map print_message ms ++ t) (append-nil (print_message m))) in
+    omega (arith, length-append (flat_map print_message ms) (print_message m))
+
+-- it was answered, and doesn't ask for the end
+pub goes_on : (now rows : RouterRows) (Before Once Now : List ℕ → Type 0) (a b c w0 w1 w2 : Option (List ℕ)) (n at place : ℕ) → now ≡ rows
+    → ReadsOn Before Once Now → AnsweredOn rows Before a b w0 w1 n at → AnswersNext now Once n at place b c w1 w2 None
+    → AnsweredOn rows Now a c w0 w2 (n + 1) place
+goes_on now rows Before Once Now a b c w0 w1 w2 n at place same on is next =
+    further (subst (λ r. IsReplied r Once n at place b c w1 w2 false) same next)
+  where
+    further : IsReplied rows Once n at place b c w1 w2 false → AnsweredOn rows Now a c w0 w2 (n + 1) place
+    further reply = record {
+      messages = is.messages ++ reply.message ∷ [];
+      counted = simp length-append (let e = is.counted in omega arith);
+      at_is = place_more is.messages reply.message at place is.at_is reply.at;
+      on = each-push (λ m. asks m ≡ false) is.messages reply.message is.on reply.asking;
+      answered = answers_one_more rows Before Once Now a b c w0 w1 w2 is.messages n at place false is.counted on is.answered reply;
+    }
+
+-- the clock wasn't read again
+answered_now : (rows : RouterRows) (Before Once Now : List ℕ → Type 0) (a b w0 w1 : Option (List ℕ)) (ms : List Message)
+    → ReadsOn Before Once Now → Once [] → Answered rows Before a b w0 w1 ms → Answered rows Now a b w0 w1 ms
+answered_now rows Before Once Now a b w0 w1 ms on none is = record {
+  times = is.times;
+  one_each = is.one_each;
+  read = subst Now (append-nil is.times) (on is.times [] is.read none);
+  each = is.each;
+  whole = is.whole;
+  written = is.written;
+}
+
+-- no request was read, and the answering ends so
+ends_at : (rows : RouterRows) (Before Once Now : List ℕ → Type 0) (Is : List ℕ → Type 0) (a b w0 w1 w2 : Option (List ℕ)) (n at : ℕ) (end : End)
+    → (is : AnsweredOn rows Before a b w0 w1 n at) → n < most_requests → ReadsOn Before Once Now → EndsAt Once Is b w1 w2 end
+    → EndsAhead end is.messages b → AnswersAll rows Now a w0 w2 end
+ends_at rows Before Once Now Is a b w0 w1 w2 n at end is few on next ends = record {
+  messages = is.messages;
+  most = let e = is.counted in omega arith;
+  ahead = b;
+  replied = w1;
+  answered = answered_now rows Before Once Now a b w0 w1 is.messages on next.read is.answered;
+  ends = ends;
+  last = next.written;
+}
+
+-- the answering ends with the next message
+pub ends_next : (now rows : RouterRows) (Before Once Now : List ℕ → Type 0) (a b c w0 w1 w2 : Option (List ℕ)) (n at place : ℕ) (end : End)
+    → now ≡ rows → ReadsOn Before Once Now → AnsweredOn rows Before a b w0 w1 n at → n < most_requests
+    → AnswersNext now Once n at place b c w1 w2 (Some end) → AnswersAll rows Now a w0 w2 end
+ends_next now rows Before Once Now a b c w0 w1 w2 n at place Closed same on is few next =
+    ends_at rows Before Once Now (λ rest. rest ≡ []) a b w0 w1 w2 n at Closed is few on next
+    (λ rest seen. (is.on, let e = is.counted in omega arith, next.is rest seen))
+ends_next now rows Before Once Now a b c w0 w1 w2 n at place Asked same on is few next =
+    asked (subst (λ r. IsReplied r Once n at place b c w1 w2 true) same next)
+  where
+    asked : IsReplied rows Once n at place b c w1 w2 true → AnswersAll rows Now a w0 w2 Asked
+    asked reply = record {
+      messages = is.messages ++ reply.message ∷ [];
+      most = simp length-append (let e = is.counted in omega arith);
+      ahead = c;
+      replied = w2;
+      answered = answers_one_more rows Before Once Now a b c w0 w1 w2 is.messages n at place true is.counted on is.answered reply;
+      ends = λ rest seen. record {
+        before = is.messages;
+        last = reply.message;
+        joined = refl;
+        on = is.on;
+        asked = reply.asking;
+      };
+      last = sym (with_end-nil w2);
+    }
+ends_next now rows Before Once Now a b c w0 w1 w2 n at place Spent same on is few next = absurd next
+ends_next now rows Before Once Now a b c w0 w1 w2 n at place (Bad spot) same on is few next =
+    ends_at rows Before Once Now IsBad a b w0 w1 w2 n at (Bad spot) is few on next.1
+    (λ rest seen. (is.on, let e = is.counted in omega arith, next.1.is rest seen, next.0 ∙ is.at_is))
+ends_next now rows Before Once Now a b c w0 w1 w2 n at place (Cut have) same on is few next =
+    ends_at rows Before Once Now (λ rest. IsCut rest × (have ≡ length rest)) a b w0 w1 w2 n at (Cut have) is few on next
+    (λ rest seen. (is.on, let e = is.counted in omega arith, (next.is rest seen).0, (next.is rest seen).1))
+
+-- as many were answered as may be
+pub ends_spent : (rows : RouterRows) (Read : List ℕ → Type 0) (a b w0 w1 : Option (List ℕ)) (n at : ℕ)
+    → AnsweredOn rows Read a b w0 w1 n at → n ≡ most_requests → AnswersAll rows Read a w0 w1 Spent
+ends_spent rows Read a b w0 w1 n at is all = record {
+  messages = is.messages;
+  most = let e = is.counted in omega arith;
+  ahead = b;
+  replied = w1;
+  answered = is.answered;
+  ends = λ rest seen. (is.on, is.counted ∙ all);
+  last = sym (with_end-nil w1);
+}
+
+-- the answering is cut short at the next message
+pub stops_next : (now rows : RouterRows) (Before Once Now : List ℕ → Type 0) (a b w0 w1 w2 : Option (List ℕ)) (n at : ℕ) → now ≡ rows
+    → ReadsOn Before Once Now → AnsweredOn rows Before a b w0 w1 n at → n < most_requests → StopsNext now Once n b w1 w2
+    → AnswersFront rows Now a w0 w2
+stops_next now rows Before Once Now a b w0 w1 w2 n at same on is few next = record {
+  messages = is.messages;
+  few = let e = is.counted in omega arith;
+  on = is.on;
+  times = is.answered.times ++ next.times;
+  read = on is.answered.times next.times is.answered.read next.read;
+  each = is.answered.each;
+  ahead = b;
+  whole = is.answered.whole;
+  part = next.part;
+  stops = λ rest seen.
+      subst (λ k. StopsIn rows k (length (is.answered.times ++ next.times)) rest next.part) (sym is.counted)
+      (subst (λ k. StopsIn rows n k rest next.part) readings
+      (subst (λ r. StopsIn r n (n + length next.times) rest next.part) same (next.stops rest seen)));
+  written = next.written ∙ ap (λ w. with_end w next.part) is.answered.written ∙ sym (with_end-append w0 (texts rows 0 is.messages) next.part);
+}
+  where
+    readings : n + length next.times ≡ length (is.answered.times ++ next.times)
+    readings =
+        let each = is.answered.one_each in
+        let all = is.counted in
+        omega (arith, length-append is.answered.times next.times)
+
+-- the answering is cut short before the first request
+pub stopped_at_once : (rows : RouterRows) (Read : List ℕ → Type 0) (ahead written : Option (List ℕ)) → Read []
+    → AnswersFront rows Read ahead written written
+stopped_at_once rows Read ahead written read = record {
+  messages = [];
+  few = omega arith;
+  on = tt;
+  times = [];
+  read = read;
+  each = tt;
+  ahead = ahead;
+  whole = sym (with_front-nil ahead);
+  part = [];
+  stops = λ rest seen. inl (refl, refl);
+  written = sym (with_end-nil written);
+}
+
+-- a connection by the same rows
+pub front_with_rows : (now rows : RouterRows) (Read : List ℕ → Type 0) (left before written : Option (List ℕ)) → now ≡ rows
+    → AnswersFront now Read left before written → AnswersFront rows Read left before written
+front_with_rows now rows Read left before written same front = subst (λ r. AnswersFront r Read left before written) same front

@@ -1,0 +1,7 @@
+pub mod Answered
+pub mod Echo
+pub mod Fronts
+pub mod Plain
+pub mod Replies
+pub mod UpstreamFields
+pub mod UpstreamPath

@@ -1,0 +1,208 @@
+//! The requests of one connection, answered one after another.
+
+ghost use Rattle.std.specs.Prelude.{◌≡◌, ◌<◌, ◌+◌, ◌==◌, ℕ, List as Sequence, [], ◌∷◌, None, Ok, IfOk, OnOk, OnErr, IsErrOf, if◌then◌else◌};
+ghost use Rattle.kg_outside.specs.Causes.{Rose};
+ghost use Rattle.kg_outside.specs.Moves.{with_end, with_front};
+ghost use Rattle.kg_print.specs.Connection.{asks_for_end};
+ghost use Rattle.kg_plain.specs.Answered.{AnswersAll, AnswersFront, AnswersNext, StopsNext, asked_end};
+ghost use Rattle.kg_plain.specs.Fronts.{IsFront};
+ghost use Rattle.kg_plain.specs.Plain.{bad_request_text, reply_to};
+ghost use Rattle.kg_plain.specs.Replies.{local_address, most_requests};
+ghost use Rattle.kg_plain.specs.declared.answers.End.{End as AnEnd};
+
+use crate::gateway::{Gateway, bad_request_text};
+use kg_message::Request;
+use kg_outside::{Clock, Failed, Sink, Source};
+use kg_text::NoMemory;
+use kg_wire::{ReadError, Reader, asks_for_end, write_whole};
+use std::alloc::Global;
+
+// How many requests one connection answers.
+const MOST_REQUESTS: u32 = 1000;
+
+// The address that every request comes from.
+const LOCAL_ADDRESS: [u8; 4] = [127, 0, 0, 1];
+
+/// How the answering ended that was not cut short.
+#[derive(Clone, Copy)]
+pub enum End {
+    /// The stream ended between two messages.
+    Closed,
+    /// The last request asked for the end of the connection.
+    Asked,
+    /// As many requests were answered as one connection may have.
+    Spent,
+    /// The next message was refused. It begins behind `at` bytes.
+    Bad { at: u64 },
+    /// The stream ended inside a message, of which there are `have` bytes.
+    Cut { have: u64 },
+}
+
+/// Why the answering was cut short.
+#[derive(Clone, Copy)]
+pub enum Stop {
+    /// The source failed.
+    ReadFault,
+    /// The sink failed.
+    WriteFault,
+    /// There was no memory.
+    NoMemory,
+}
+
+impl From<NoMemory> for Stop {
+    ghost use Rattle.kg_plain.specs.declared.answers.Stop.TheVariants.{NoMemory as OutOfMemory};
+
+    ghost from_gives = { λ _ stop. stop ≡ OutOfMemory };
+
+    fn from(_: NoMemory) -> Stop {
+        Stop::NoMemory
+    }
+}
+
+impl From<Failed> for Stop {
+    ghost use Rattle.kg_plain.specs.declared.answers.Stop.TheVariants.{WriteFault};
+
+    ghost from_gives = { λ _ stop. stop ≡ WriteFault };
+
+    fn from(_: Failed) -> Stop {
+        Stop::WriteFault
+    }
+}
+
+/// Answers the requests of the source one after another, each with the gateway's reply, up to the first that
+/// asks for the end of the connection or the thousandth. The clock is read once for each. A message that is
+/// refused before is answered with 400, and no more is read.
+///
+/// An error is a fault of the source, one of the sink, or want of memory: then whole replies are written, and a
+/// front of what comes next.
+pub fn answer_all<S: Source, K: Sink, T: Clock>(
+    alloc: Global,
+    gateway: &mut Gateway,
+    source: &mut S,
+    sink: &mut K,
+    clock: &mut T,
+) -> Result<End, Stop>
+    ensures ok { IfOk result (AnswersAll gateway.old (T.reads clock.old clock.new) (S.left source.old) (K.written sink.old) (K.written sink.new)) }
+    ensures err { OnErr result (AnswersFront gateway.old (T.reads clock.old clock.new) (S.left source.old) (K.written sink.old) (K.written sink.new)) }
+
+    // A fault is told exactly where the environment failed.
+    ensures kept_read { OnOk result (S.faults source.new ≡ S.faults source.old) }
+    ensures kept_write { OnOk result (K.faults sink.new ≡ K.faults sink.old) }
+    ensures read { IsErrOf result Stop.ReadFault → Rose (S.faults source.old) (S.faults source.new) }
+    ensures write { IsErrOf result Stop.WriteFault → Rose (K.faults sink.old) (K.faults sink.new) }
+{
+    let mut reader = Reader::new(alloc, LOCAL_ADDRESS)?;
+    let mut count = 0;
+    while count < MOST_REQUESTS {
+        match answer_next(alloc, gateway, &mut reader, source, sink, clock, count)? {
+            Some(end) => return Ok(end),
+            None => count += 1,
+        }
+    }
+    Ok(End::Spent)
+}
+
+// Reads and answers the next request, behind so many that were answered. `None`: the connection goes on.
+fn answer_next<S: Source, K: Sink, T: Clock>(
+    alloc: Global,
+    gateway: &mut Gateway,
+    reader: &mut Reader,
+    source: &mut S,
+    sink: &mut K,
+    clock: &mut T,
+    answered: u32,
+) -> Result<Option<End>, Stop>
+    requires fresh { reader.old.error ≡ None }
+    requires address { reader.old.address ≡ local_address }
+    requires few { answered < most_requests }
+    ensures rows { gateway.new ≡ gateway.old }
+    ensures address { reader.new.address ≡ reader.old.address }
+    ensures on { result ≡ Ok None → reader.new.error ≡ None }
+    ensures ok { IfOk result (AnswersNext gateway.old (T.reads clock.old clock.new) answered reader.old.at reader.new.at
+        (with_front reader.old.held (S.left source.old)) (with_front reader.new.held (S.left source.new)) (K.written sink.old) (K.written sink.new)) }
+    ensures err { OnErr result (StopsNext gateway.old (T.reads clock.old clock.new) answered (with_front reader.old.held (S.left source.old))
+        (K.written sink.old) (K.written sink.new)) }
+    ensures kept_read { OnOk result (S.faults source.new ≡ S.faults source.old) }
+    ensures kept_write { OnOk result (K.faults sink.new ≡ K.faults sink.old) }
+    ensures read { IsErrOf result Stop.ReadFault → Rose (S.faults source.old) (S.faults source.new) }
+    ensures write { IsErrOf result Stop.WriteFault → Rose (K.faults sink.old) (K.faults sink.new) }
+{
+    match reader.next_request(alloc, source) {
+        Ok(Some(request)) => {
+            let last = answered + 1 == MOST_REQUESTS;
+            answer_request(alloc, gateway, request, last, sink, clock)
+        }
+        Ok(None) => Ok(Some(End::Closed)),
+        Err(ReadError::Bad { at }) => answer_bad(alloc, at, sink),
+        Err(ReadError::HeadTooLarge) => unreachable!(),
+        Err(ReadError::BodyTooLarge) => unreachable!(),
+        Err(ReadError::Cut { have }) => Ok(Some(End::Cut { have })),
+        Err(ReadError::ReadFault) => Err(Stop::ReadFault),
+        Err(ReadError::NoMemory) => Err(Stop::NoMemory),
+    }
+}
+
+// Answers a request that was read. `None`: it doesn't ask for the end.
+fn answer_request<K: Sink, T: Clock>(
+    alloc: Global,
+    gateway: &mut Gateway,
+    request: Request,
+    last: bool,
+    sink: &mut K,
+    clock: &mut T,
+) -> Result<Option<End>, Stop>
+    ensures rows { gateway.new ≡ gateway.old }
+    ensures end { IfOk result (λ end. end ≡ asked_end (asks_for_end request)) }
+    ensures ok { OnOk result (K.written sink.new ≡ with_end (K.written sink.old) (reply_to gateway.old last request)) }
+    ensures err { OnErr result ((front : Sequence ℕ) × (IsFront front (reply_to gateway.old last request))
+        × (K.written sink.new ≡ with_end (K.written sink.old) front)) }
+    ensures clock { (time : ℕ) × T.reads clock.old clock.new (time ∷ []) }
+    ensures kept { OnOk result (K.faults sink.new ≡ K.faults sink.old) }
+    ensures read { IsErrOf result Stop.ReadFault → ⊥ }
+    ensures write { IsErrOf result Stop.WriteFault → Rose (K.faults sink.old) (K.faults sink.new) }
+{
+    let asks = asks_for_end(&request);
+    let written = answer_one(alloc, gateway, &request, last, sink, clock);
+    // let go by name: a short proof
+    drop(request);
+    written?;
+    if asks { Ok(Some(End::Asked)) } else { Ok(None) }
+}
+
+// Answers one request, with the clock read once before it.
+fn answer_one<K: Sink, T: Clock>(
+    alloc: Global,
+    gateway: &mut Gateway,
+    request: &Request,
+    last: bool,
+    sink: &mut K,
+    clock: &mut T,
+) -> Result<(), Stop>
+    ensures rows { gateway.new ≡ gateway.old }
+    ensures ok { OnOk result (K.written sink.new ≡ with_end (K.written sink.old) (reply_to gateway.old last request.now)) }
+    ensures err { OnErr result ((front : Sequence ℕ) × (IsFront front (reply_to gateway.old last request.now))
+        × (K.written sink.new ≡ with_end (K.written sink.old) front)) }
+    ensures clock { (time : ℕ) × T.reads clock.old clock.new (time ∷ []) }
+    ensures kept { OnOk result (K.faults sink.new ≡ K.faults sink.old) }
+    ensures read { IsErrOf result Stop.ReadFault → ⊥ }
+    ensures write { IsErrOf result Stop.WriteFault → Rose (K.faults sink.old) (K.faults sink.new) }
+{
+    clock.now();
+    let text = gateway.reply_to(alloc, request, last)?;
+    write_whole(sink, text.as_slice())?;
+    Ok(())
+}
+
+// Answers a message that is refused, behind so many bytes.
+fn answer_bad<K: Sink>(alloc: Global, at: u64, sink: &mut K) -> Result<Option<End>, Stop>
+    ensures ok { IfOk result (λ end. (end ≡ Some (AnEnd.Bad at)) × (K.written sink.new ≡ with_end (K.written sink.old) bad_request_text)) }
+    ensures err { OnErr result ((front : Sequence ℕ) × (IsFront front bad_request_text)
+        × (K.written sink.new ≡ with_end (K.written sink.old) front)) }
+    ensures kept { OnOk result (K.faults sink.new ≡ K.faults sink.old) }
+    ensures read { IsErrOf result Stop.ReadFault → ⊥ }
+    ensures write { IsErrOf result Stop.WriteFault → Rose (K.faults sink.old) (K.faults sink.new) }
+{
+    let refusal = bad_request_text(alloc)?;
+    write_whole(sink, refusal.as_slice())?;
+    Ok(Some(End::Bad { at }))
+}
