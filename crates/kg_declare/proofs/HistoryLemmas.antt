@@ -13,7 +13,7 @@ use Rattle.kg_row_changes.specs.Allowed.{is_allowed}
 use Rattle.kg_rows.specs.Decision.{and_then, decision, full, inserted, needed, proposed, unless}
 use Rattle.kg_rows.specs.References.{link_of}
 use Rattle.kg_row_values.specs.Rows.{changed, rows_after, rows_from}
-use Rattle.kg_rows.specs.Selections.{collection_of}
+use Rattle.kg_row_queries.specs.Selections.{collection_of}
 use Rattle.kg_row_changes.specs.ValidCommands.{AreAllowed, IsValidCommand}
 use Rattle.kg_row_values.specs.declared.command.Command.{Command}
 use Rattle.kg_row_values.specs.declared.command.Command.TheVariants as command
@@ -21,7 +21,7 @@ use Rattle.kg_rows.specs.declared.draft.Draft.{Draft}
 use Rattle.kg_rows.specs.declared.draft.Draft.TheVariants.{Insert, Patch, Put, Delete}
 use Rattle.kg_rows.specs.declared.draft.Refusal.{Refusal}
 use Rattle.kg_rows.specs.declared.draft.Refusal.TheVariants.{NotFound}
-use Rattle.kg_rows.specs.declared.collection.Collection.{Collection}
+use Rattle.kg_row_queries.specs.declared.collection.Collection.{Collection}
 use Rattle.kg_row_making.specs.Bases.{New}
 use Rattle.kg_declare.specs.Histories.{InsertsValidRow}
 use Rattle.kg_declare.specs.Inserting.{InsertsNewRow, IsConsistent, IsDecided, IsInsertion, decided, progress_at}

@@ -1,10 +1,11 @@
 -- The rows of a declaration, inserted one after another.
-use Rattle.std.proofs.Common.{◌≡◌, ◌≢◌, ℕ, suc, ◌+◌, ◌==◌, ◌<◌, false, List, [], ◌∷◌, ◌++◌, length, get_or, fold, Option, Some, None, Result, Err, refl, sym, ap, ◌∙◌, append_assoc, subst, arith}
+use Rattle.std.proofs.Common.{◌≡◌, ◌≢◌, ℕ, suc, ◌+◌, ◌==◌, ◌<◌, ◌≤◌, Bool, true, false, cond, List, [], ◌∷◌, ◌++◌, length, get_or, fold, Option, Some, None, Result, Ok, Err, refl, sym, ap, ◌∙◌, append_assoc, arith}
 use Rattle.std.proofs.lemmas.Bool.Decides.{nat_tests}
 use Rattle.std.proofs.lemmas.List.{append-nil}
 use Rattle.std.proofs.lemmas.List.Sums.{fold-append}
 use Rattle.serde_json.specs.Data.{Members, object}
-use Rattle.kg_rows.specs.Decision.{Decides}
+use Rattle.kg_row_types.specs.Ids.{drawn_id}
+use Rattle.kg_rows.specs.Decision.{Decides, insertion}
 use Rattle.kg_row_values.specs.declared.command.Command.{Command}
 use Rattle.kg_rows.specs.declared.draft.DecideError.{DecideError}
 use Rattle.kg_rows.specs.declared.draft.DecideError.TheVariants as decide_error
@@ -14,8 +15,8 @@ use Rattle.kg_field_rules.specs.Rules.{BrokenRule, in_order, tell}
 use Rattle.kg_bodies.specs.Settings.{id_at}
 use Rattle.kg_field_rules.specs.declared.rule.Rule.TheVariants.{WrongType}
 use Rattle.kg_declared_rows.specs.Violations.{own_violations}
-use Rattle.kg_declare.specs.Inserting.{IsConsistent, IsIdOf, IsUnread, Prepares, Refuses, TellsViolations, TellsRefusal, decided, identified, inserted, progress_at, start, with_row, with_rows}
-use Rattle.kg_declare.specs.Outcome.{Progress, Refused, all_added, answered, declaration_of, declared, next, outcome, row_violations, unread, with_ids, wrong_violations}
+use Rattle.kg_declare.specs.Inserting.{IsConsistent, IsIdOf, IsUnread, Prepares, Refuses, TellsRefusal, TellsViolations, decided, identified, inserted, progress_at, start, with_row, with_rows}
+use Rattle.kg_declare.specs.Outcome.{Progress, Refused, all_added, answered, declaration_of, declared, drawn_for, next, outcome, own_id, parent_of, row_violations, unread, violated, with_ids, wrong_violations}
 use Rattle.kg_declared_rows.specs.Rows.{Row}
 use Rattle.kg_declare.specs.Steps.{IsRefusedAt, progress_after}
 use Rattle.kg_declare.specs.declared.error.DeclareError.{DeclareError}
@@ -80,12 +81,56 @@ pub row_step : (front drawn more : List (List ℕ)) (now limit : ℕ) (row : Row
 unfolding with_row
 row_step front drawn more now limit row old id none is = rw none (identified_as front drawn more now limit row old (id_at (object row.members)) id is)
 
+-- ---- ids that are drawn
+
+-- so many are drawn for what is decided
+drawn_decided : (progress : Progress) (drawn : ℕ) (answer : Result Command Refusal) → drawn_for (decided progress drawn answer) ≡ drawn
+drawn_decided progress drawn (Ok command) = refl
+drawn_decided progress drawn (Err refusal) = refl
+
+-- no row takes an id back
+identified_draws : (draws : List (List ℕ)) (now limit : ℕ) (row : Row) (set : Option ℕ) (progress : Progress)
+    → progress.drawn ≤ drawn_for (identified draws now limit row set progress)
+identified_draws draws now limit row (Some id) progress =
+    let same = drawn_decided progress progress.drawn (insertion progress.rows row.kind (parent_of progress.commands row.parent) (object row.members) id now limit) in
+    omega arith
+identified_draws draws now limit row None progress =
+    let same = drawn_decided progress (suc progress.drawn) (insertion progress.rows row.kind (parent_of progress.commands row.parent) (object row.members) (drawn_id (get_or draws progress.drawn [])) now limit) in
+    omega arith
+
+row_draws : (draws : List (List ℕ)) (now limit : ℕ) (row : Row) (progress : Progress) → progress.drawn ≤ drawn_for (with_row draws now limit row progress)
+unfolding with_row
+row_draws draws now limit row progress = by_test (length (row_violations row) == 0)
+  where
+    by_test : (unbroken : Bool)
+        → progress.drawn ≤ drawn_for (cond unbroken (identified draws now limit row (own_id row) progress) (Err (violated (row_violations row) progress.drawn)))
+    by_test true = identified_draws draws now limit row (own_id row) progress
+    by_test false = omega arith
+
+rows_draw : (draws : List (List ℕ)) (now limit : ℕ) (rows : List Row) (progress : Progress) → progress.drawn ≤ drawn_for (with_rows draws now limit rows progress)
+rows_draw draws now limit [] progress = omega arith
+rows_draw draws now limit (row ∷ rows) progress =
+    by_step (with_row draws now limit row progress) (row_draws draws now limit row progress) (rows_draw draws now limit rows)
+  where
+    by_step : (step : Result Progress Refused) → progress.drawn ≤ drawn_for step
+        → ((done : Progress) → done.drawn ≤ drawn_for (with_rows draws now limit rows done))
+        → progress.drawn ≤ drawn_for (next (with_rows draws now limit rows) step)
+    by_step (Ok done) here later = let more = later done in omega arith
+    by_step (Err refused) here later = here
+
+rows_draw_more : (draws : List (List ℕ)) (now limit : ℕ) (rows : List Row) (step : Result Progress Refused)
+    → drawn_for step ≤ drawn_for (next (with_rows draws now limit rows) step)
+rows_draw_more draws now limit rows (Ok done) = rows_draw draws now limit rows done
+rows_draw_more draws now limit rows (Err refused) = omega arith
+
+-- ---- refusals
+
 -- a row with violations is refused
 pub row_refused : (draws : List (List ℕ)) (now limit : ℕ) (row : Row) (progress : Progress) (e : DeclareError) → TellsViolations e (row_violations row)
     → IsRefusedAt e (with_row draws now limit row progress) progress.drawn
 unfolding with_row
 row_refused draws now limit row progress (error.Refused response) told = rw (no_violations (row_violations row) told.0, told.1) refl
-row_refused draws now limit row progress error.NoMemory told = tt
+row_refused draws now limit row progress error.NoMemory told = row_draws draws now limit row progress
 
 -- what is refused of a draft
 pub refused_draft : (e : DecideError) (told : DeclareError) (meant : Result Command Refusal) → TellsRefusal told e → Decides {A = Command} (Err e) meant → Refuses told meant
@@ -96,7 +141,7 @@ refused_draft e error.NoMemory meant told is = tt
 pub refused_at : (e : DeclareError) (progress : Progress) (drawn : ℕ) (meant : Result Command Refusal) → Refuses e meant → IsRefusedAt e (decided progress drawn meant) drawn
 refused_at (error.Refused response) progress drawn meant told =
     ap (decided progress drawn) told.1 ∙ ap (λ reply. Err (record { response = reply; drawn = drawn })) (sym told.2)
-refused_at error.NoMemory progress drawn meant told = tt
+refused_at error.NoMemory progress drawn meant told = let same = drawn_decided progress drawn meant in omega arith
 
 -- ---- rows
 
@@ -120,11 +165,15 @@ ahead_row drawn step more now limit all rest row old new ahead answer is =
     ∙ ap (λ draws. with_rows draws now limit (row ∷ rest) (progress_at new (length drawn))) (sym (append_assoc drawn step more))
     ∙ ap (next (with_rows (drawn ++ step ++ more) now limit rest)) is
 
--- a refusal of a part is one of the whole
-pub refused_later : (e : DeclareError) (part whole : Result Progress Refused) (n m : ℕ) → n ≡ m → ((refused : Refused) → part ≡ Err refused → whole ≡ Err refused)
-    → IsRefusedAt e part n → IsRefusedAt e whole m
-refused_later (error.Refused response) part whole n m same later is = subst (λ drawn. whole ≡ Err (record { response = response; drawn = drawn })) same (later (record { response = response; drawn = n }) is)
-refused_later error.NoMemory part whole n m same later is = tt
+-- a refusal at a row is one of all rows
+pub refused_later : (e : DeclareError) (draws : List (List ℕ)) (now limit : ℕ) (rest : List Row) (step all : Result Progress Refused) (n m : ℕ)
+    → n ≡ m → all ≡ next (with_rows draws now limit rest) step → IsRefusedAt e step n → IsRefusedAt e all m
+refused_later (error.Refused response) draws now limit rest step all n m same later is =
+    later ∙ ap (next (with_rows draws now limit rest)) is ∙ ap (λ drawn. Err (record { response = response; drawn = drawn })) same
+refused_later error.NoMemory draws now limit rest step all n m same later within =
+    let more = rows_draw_more draws now limit rest step in
+    let total = ap drawn_for later in
+    omega arith
 
 pub nothing_left : {A : Type 0} (xs : List A) → length xs ≡ 0 → xs ≡ []
 nothing_left [] none = refl
@@ -136,14 +185,14 @@ nothing_left (x ∷ xs) none = absurd (omega arith)
 pub unread_refused : (line : List ℕ) (now limit : ℕ) (draws : List (List ℕ)) (e : DeclareError) → IsUnread e (declaration_of line) → IsRefusedAt e (outcome line now limit draws) 0
 unfolding outcome unread
 unread_refused line now limit draws (error.Refused response) is = rw (is.0, is.1) refl
-unread_refused line now limit draws error.NoMemory is = tt
+unread_refused line now limit draws error.NoMemory is = omega arith
 
 -- a declaration with violations of its own is refused
 pub broken_refused : (line : List ℕ) (declaration : Members) (now limit : ℕ) (draws : List (List ℕ)) (e : DeclareError) → declaration_of line ≡ Some declaration
     → TellsViolations e (own_violations declaration) → IsRefusedAt e (outcome line now limit draws) 0
 unfolding outcome declared
 broken_refused line declaration now limit draws (error.Refused response) read told = rw (read, no_violations (own_violations declaration) told.0, told.1) refl
-broken_refused line declaration now limit draws error.NoMemory read told = tt
+broken_refused line declaration now limit draws error.NoMemory read told = omega arith
 
 -- another is what becomes of its rows
 pub unbroken_inserted : (line : List ℕ) (rows : List Row) (now limit : ℕ) (draws : List (List ℕ)) → Prepares line rows

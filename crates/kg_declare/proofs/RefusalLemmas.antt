@@ -32,5 +32,5 @@ rules_after fields [] none = none
 rules_after fields (violation ∷ broken) none =
     rules_after (with_rule fields violation) broken (put_text violation.path (rule_text violation.rule) fields none)
 
-pub words_have_no_float : (broken : List Broken) → members_have_float (rules_of broken) ≡ false
-words_have_no_float broken = rules_after no_members broken refl
+pub rules_have_no_float : (broken : List Broken) → members_have_float (rules_of broken) ≡ false
+rules_have_no_float broken = rules_after no_members broken refl

@@ -6,7 +6,7 @@ use Rattle.kg_row_values.specs.declared.command.Command.{Command}
 use Rattle.kg_row_types.specs.declared.entity.Kind.{Kind}
 use Rattle.kg_row_types.specs.declared.entity.Kind.TheVariants as kind
 use Rattle.kg_rows.specs.Decision.{CanStandUnder, nests}
-use Rattle.kg_rows.specs.declared.select.Select.TheVariants.{Id}
+use Rattle.kg_row_queries.specs.declared.select.Select.TheVariants.{Id}
 use Rattle.kg_declared_rows.specs.Violations.{rows_at}
 use Rattle.kg_declare.specs.Outcome.{inserted_id, parent_of}
 use Rattle.kg_declared_rows.specs.Rows.{Row, alone, consumers, listed, first_consumer, first_route, nested, nested_in, owned, plugins, routes, row_of, rows_of, services, stripped}

@@ -18,8 +18,8 @@ use Rattle.kg_row_values.specs.Rows.{rows_after}
 use Rattle.kg_row_values.specs.declared.command.Command.{Command}
 use Rattle.kg_row_values.specs.declared.command.Command.TheVariants.{Insert, Update, Delete}
 use Rattle.kg_rows.specs.declared.draft.Refusal.{Refusal}
-use Rattle.kg_rows.specs.declared.select.Parent.{Parent}
-use Rattle.kg_rows.specs.declared.select.Select.TheVariants.{Id}
+use Rattle.kg_row_queries.specs.declared.select.Parent.{Parent}
+use Rattle.kg_row_queries.specs.declared.select.Select.TheVariants.{Id}
 use Rattle.kg_field_tables.specs.BrokenRules.{field_violations}
 use Rattle.kg_field_rules.specs.Rules.{BrokenRule, in_order, listed}
 use Rattle.kg_bodies.specs.Settings.{id_at}
@@ -130,6 +130,11 @@ pub record Progress : Type 0 where
 pub record Refused : Type 0 where
   pub response : Response
   pub drawn : ℕ
+
+-- how many ids are drawn for it, accepted or refused
+abbrev pub drawn_for : Result Progress Refused → ℕ
+drawn_for (Ok progress) = progress.drawn
+drawn_for (Err refused) = refused.drawn
 
 abbrev pub violated : List BrokenRule → ℕ → Refused
 violated violations drawn = record { response = violation_response (listed (in_order violations)); drawn = drawn }

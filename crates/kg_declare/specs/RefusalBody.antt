@@ -1,5 +1,5 @@
 -- The replies to requests that are refused: an object of JSON with the code of the refusal, the fields
--- that it is about, and its name (Kong Admin API, error responses; the words are this project's own).
+-- that it is about, and its name (Kong Admin API, error responses; the texts are this project's own).
 -- Every other refusal is the gateway's message.
 use Rattle.std.specs.Prelude.{ℕ, Bool, List, [], ◌∷◌, fold, codes, if◌then◌else◌}
 use Rattle.serde_json.specs.Data.{Data, object, number, string, unsigned, Members, no_members, member, put}

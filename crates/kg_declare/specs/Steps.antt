@@ -1,21 +1,22 @@
 -- What a call answers for a declaration.
-use Rattle.std.specs.Prelude.{◌≡◌, ℕ, List, ◌++◌, length, Result, Ok, Err, ⊤}
+use Rattle.std.specs.Prelude.{◌≡◌, ℕ, ◌≤◌, List, ◌++◌, length, Result, Ok, Err}
 use Rattle.kg_row_values.specs.Rows.{rows_after}
 use Rattle.kg_row_values.specs.declared.command.Command.{Command}
-use Rattle.kg_declare.specs.Outcome.{Progress, Refused}
+use Rattle.kg_declare.specs.Outcome.{Progress, Refused, drawn_for}
 use Rattle.kg_declare.specs.declared.error.DeclareError.{DeclareError}
 use Rattle.kg_declare.specs.declared.error.DeclareError.TheVariants as error
 
--- this many ids were drawn, and this is the refusal; want of memory is free
+-- this many ids were drawn, and this is the refusal; want of memory may come before all ids are drawn that are
+-- drawn for the answer
 abbrev pub IsRefusedAt : DeclareError → Result Progress Refused → ℕ → Type 0
 IsRefusedAt (error.Refused response) meant drawn = meant ≡ Err (record { response = response; drawn = drawn })
-IsRefusedAt error.NoMemory meant drawn = ⊤
+IsRefusedAt error.NoMemory meant drawn = drawn ≤ drawn_for meant
 
 -- the rows and commands after these commands, when so many ids were drawn
 abbrev pub progress_after : List Command → ℕ → Progress
 progress_after commands drawn = record { rows = rows_after commands; commands = commands; drawn = drawn }
 
--- what a declaration is answered: the commands, or the refusal; want of memory is free
+-- what a declaration is answered: the commands, or the refusal, unless there is no memory for it
 abbrev pub Answers : Result (List Command) DeclareError → Result Progress Refused → ℕ → Type 0
 Answers (Ok commands) meant drawn = meant ≡ Ok (progress_after commands drawn)
 Answers (Err e) meant drawn = IsRefusedAt e meant drawn

@@ -7,7 +7,7 @@ ghost use Rattle.kg_rows.specs.Decision.{IsProper, decision};
 ghost use Rattle.kg_row_values.specs.Rows.{changed};
 ghost use Rattle.kg_field_rules.specs.Rules.{tell};
 ghost use Rattle.kg_bodies.specs.Settings.{id_at};
-ghost use Rattle.kg_declare.specs.Inserting.{Identifies, InsertsNewRow, IsConsistent, IsDecided, IsInsertion, Leaves, Refuses, Stands, Steps, StepsFromStart, TellsViolations, TellsRefusal, decided, progress_at, start, with_row, with_rows};
+ghost use Rattle.kg_declare.specs.Inserting.{Identifies, InsertsNewRow, IsConsistent, IsDecided, IsInsertion, Leaves, Refuses, Stands, Steps, StepsFromStart, TellsRefusal, TellsViolations, decided, progress_at, start, with_row, with_rows};
 ghost use Rattle.kg_declare.specs.Outcome.{body_violations, inserted_id, parent_at, parent_of, row_violations, wrong_violations};
 ghost use Rattle.kg_declared_rows.specs.SeenRows.{seen, seen_all};
 

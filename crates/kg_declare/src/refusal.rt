@@ -4,7 +4,7 @@ ghost use Rattle.std.specs.Prelude.{◌≡◌, IfOk, false};
 ghost use Rattle.serde_json.specs.Data.{string};
 ghost use Rattle.serde_json.specs.View.{members_view, view};
 ghost use Rattle.serde_json.specs.Written.{compact_text, has_float, members_have_float};
-ghost use Rattle.kg_declare.specs.RefusalBody.{coded_response, one_word, presence_word, refusal_object, refusal_response, violation_response, rules_of};
+ghost use Rattle.kg_declare.specs.RefusalBody.{coded_response, one_word, presence_word, refusal_object, refusal_response, rules_of, violation_response};
 
 use kg_message::{Headers, Response, message};
 use kg_rows::Refusal;
@@ -40,7 +40,7 @@ pub fn refusal_response(alloc: Global, refusal: &Refusal) -> Result<Response, No
 }
 
 /// The reply to a body that breaks these rules.
-#[tactic(auto, using(crate::proofs::RefusalLemmas::words_have_no_float), unfolding(crate::specs::RefusalBody::violation_response))]
+#[tactic(auto, using(crate::proofs::RefusalLemmas::rules_have_no_float), unfolding(crate::specs::RefusalBody::violation_response))]
 pub fn violation_response(alloc: Global, broken: &[Broken]) -> Result<Response, NoMemory>
     ensures { IfOk result (λ response. response ≡ violation_response broken.now) }
 {

@@ -1,9 +1,8 @@
 use Rattle.std.proofs.Common.{[], ◌++◌, All, Ok, length, refl, sym, ap, subst, ◌∙◌}
-use Rattle.kg_declare.specs.Inserting.{Stands, progress_at, with_rows}
-use Rattle.kg_declare.specs.Outcome.{outcome}
+use Rattle.kg_declare.specs.Inserting.{Stands}
 use Rattle.kg_declared_rows.specs.SeenRows.{seen_all}
-use Rattle.kg_declare.specs.Steps.{progress_after}
-use Rattle.kg_declare.proofs.ProgressLemmas.{at_commands, unbroken_inserted, from_start, refused_later}
+use Rattle.kg_declare.specs.Steps.{IsRefusedAt, progress_after}
+use Rattle.kg_declare.proofs.ProgressLemmas.{at_commands, unbroken_inserted, from_start}
 use Rattle.kg_declare.proofs.StandLemmas.{rows_stand}
 use Rattle.kg_declare.proofs.line.declare.Goals as goal
 
@@ -49,9 +48,8 @@ returns-in-Err-insert_rows-clause-outcome g c =
       drawn = drawn;
       moved = c.in-Err-insert_rows.ensures.steps.moved;
       answers = λ more.
-          refused_later c.in-Err-insert_rows.e (with_rows (drawn ++ more) c.args.now c.args.limit rows (progress_at c.new-made.result 0))
-          (outcome c.args.line.now c.args.now c.args.limit (drawn ++ more)) (length drawn) (length drawn) refl
-          (λ refused is. unbroken_inserted c.args.line.now rows c.args.now c.args.limit (drawn ++ more) c.in-Ok.ensures.ok
-          ∙ from_start (drawn ++ more) c.args.now c.args.limit rows c.new-made.result _ c.new-made.ensures.start is)
+          subst (λ meant. IsRefusedAt c.in-Err-insert_rows.e meant (length drawn))
+          (sym (unbroken_inserted c.args.line.now rows c.args.now c.args.limit (drawn ++ more) c.in-Ok.ensures.ok
+          ∙ from_start (drawn ++ more) c.args.now c.args.limit rows c.new-made.result _ c.new-made.ensures.start refl))
           (c.in-Err-insert_rows.ensures.steps.leaves more);
     }

@@ -1,4 +1,4 @@
-use Rattle.std.proofs.Common.{◌+◌, ◌++◌, All, length, length-append, ◌∙◌, sym, ap, subst}
+use Rattle.std.proofs.Common.{◌+◌, ◌++◌, All, length, length-append, ◌∙◌, refl, sym, ap, subst}
 use Rattle.std.proofs.lemmas.List.Elements.{All-head, All-tail}
 use Rattle.kg_declare.specs.Inserting.{Stands, progress_at, with_row, with_rows}
 use Rattle.kg_declared_rows.specs.SeenRows.{seen, seen_all}
@@ -53,14 +53,14 @@ returns-in-Err-clause-steps g c =
       drawn = drawn ++ step;
       moved = g.met.I.Ids.draws_on _ _ _ _ _ so_far.moved c.in-Err.ensures.steps.moved;
       leaves = λ more.
-          refused_later c.in-Err.e
+          refused_later c.in-Err.e (drawn ++ step ++ more) c.args.now c.args.limit rest
           (with_row (drawn ++ step ++ more) c.args.now c.args.limit (seen c.in-Some.row) (progress_at c.loop-row.made (length drawn)))
           (with_rows (drawn ++ step ++ more) c.args.now c.args.limit all (progress_at c.args.made.now 0))
           (length drawn + length step) (length (drawn ++ step)) (sym (length-append drawn step))
-          (λ refused is. ahead_row drawn step more c.args.now c.args.limit all rest (seen c.in-Some.row) c.args.made.now c.loop-row.made
+          (ahead_row drawn step more c.args.now c.args.limit all rest (seen c.in-Some.row) c.args.made.now c.loop-row.made
           (λ more. so_far.ahead more
           ∙ ap (λ items. with_rows (drawn ++ more) c.args.now c.args.limit (seen_all items) (progress_at c.loop-row.made (length drawn))) c.in-Some.ensures.steps.0)
-          _ is)
+          _ refl)
           (c.in-Err.ensures.steps.leaves drawn more);
     }
 
