@@ -1,20 +1,20 @@
 -- What the first line is answered.
-use Rattle.std.proofs.Common.{◌≡◌, ℕ, ◌≤◌, ◌⊎◌, inl, inr, true, false, not, List, [], ◌++◌, Option, Result, Ok, Err, IfOk, IfErr, length, refl, sym, ap, subst, ◌∙◌}
+use Rattle.std.proofs.Common.{◌≡◌, ℕ, ◌≤◌, ◌⊎◌, ◌==◌, inl, inr, Bool, true, false, not, cond, List, [], ◌++◌, Option, Result, Ok, Err, IfOk, IfErr, length, refl, sym, ap, subst, ◌∙◌, arith}
 use Rattle.std.specs.Prelude.{nat_lt}
 use Rattle.std.proofs.lemmas.Bool.{le-ltb, lt-ltb}
 use Rattle.kg_declare.specs.Histories.{AreInsertions}
-use Rattle.kg_declare.specs.Outcome.{next, outcome}
+use Rattle.kg_declare.specs.Outcome.{Progress, Refused, drawn_for, next, outcome}
 use Rattle.kg_declare.specs.Steps.{Answers, progress_after}
 use Rattle.kg_declare.specs.declared.error.DeclareError.{DeclareError}
 use Rattle.kg_declare.specs.declared.error.DeclareError.TheVariants as error
 use Rattle.kg_message.specs.declared.response.Response.{Response}
 use Rattle.kg_outside.specs.Moves.{with_end}
+use Rattle.kg_plain.specs.Fronts.{IsFront}
 use Rattle.kg_row_values.specs.declared.command.Command.{Command}
-use Rattle.kg_lone.specs.FirstCommands.{AnswersFirst, FirstLineCall, GivesCommands, IsRefused, first_outcome, most_line, not_built, refusal_line, run_outcome, without_plugins}
+use Rattle.kg_lone.specs.FirstCommands.{AnswersFirst, DrawsWithin, FirstLineCall, GivesCommands, IsRefused, first_outcome, most_line, not_built, refusal_line, run_outcome, without_plugins}
 use Rattle.kg_lone.specs.FirstLine.{GivesLine, line_of}
-use Rattle.kg_lone.specs.Fronts.{IsFront}
 use Rattle.kg_lone.specs.InsertedRows.{has_plugin}
-use Rattle.kg_lone.specs.LineSteps.{AnswersLine, RefusesWith, read_outcome}
+use Rattle.kg_lone.specs.LineSteps.{AnswersLine, DecidesMeant, RefusesWith, read_outcome}
 use Rattle.kg_lone.specs.declared.line.FirstLine.{FirstLine}
 use Rattle.kg_lone.specs.declared.line.FirstLine.TheVariants.{Whole, TooLong}
 use Rattle.kg_lone.proofs.InsertedLemmas.{plugins_are}
@@ -33,6 +33,34 @@ read_is_first bytes (Whole line) left now limit draws is =
     rw short (ap (λ l. run_outcome l now limit draws) (sym is.is))
 read_is_first bytes TooLong left now limit draws is = rw (lt-ltb most_line (length (line_of bytes)) is) refl
 
+-- ---- how many ids are drawn
+
+-- a plugin changes no count of ids
+drawn_without : (progress : Progress) → drawn_for (without_plugins progress) ≡ progress.drawn
+drawn_without progress = by_test (length progress.rows.plugins == 0)
+  where
+    by_test : (none : Bool) → drawn_for (cond none (Ok progress) (Err (record { response = not_built; drawn = progress.drawn }))) ≡ progress.drawn
+    by_test true = refl
+    by_test false = refl
+
+drawn_next : (meant : Result Progress Refused) → drawn_for (next without_plugins meant) ≡ drawn_for meant
+drawn_next (Ok progress) = drawn_without progress
+drawn_next (Err refused) = refl
+
+-- a line that is decided so draws its ids
+pub within_decided : (meant : List (List ℕ) → Result Progress Refused) (drawn : List (List ℕ)) (answer : Result Progress Refused)
+    → drawn_for answer ≡ length drawn → DecidesMeant meant drawn answer → DrawsWithin meant drawn
+within_decided meant drawn answer all is = λ more. let same = ap drawn_for (is more) in omega arith
+
+-- what is drawn within a line that was read is drawn within the first line
+within_first : (bytes : List ℕ) (line : FirstLine) (left : Option (List ℕ)) (now limit : ℕ) (drawn : List (List ℕ))
+    → GivesLine most_line bytes left line → DrawsWithin (read_outcome line now limit) drawn
+    → DrawsWithin (first_outcome (line_of bytes) now limit) drawn
+within_first bytes line left now limit drawn first within = λ more.
+    let same = ap drawn_for (read_is_first bytes line left now limit (drawn ++ more) first) in
+    let some = within more in
+    omega arith
+
 -- ---- what its declaration is answered
 
 -- a refusal of the declaration is one of the line
@@ -41,7 +69,10 @@ pub declines : (line : List ℕ) (now limit : ℕ) (drawn : List (List ℕ)) (e 
     → AnswersLine (Err e) (run_outcome line now limit) drawn
 unfolding run_outcome
 declines line now limit drawn (error.Refused response) is = λ more. ap (next without_plugins) (is more)
-declines line now limit drawn error.NoMemory is = tt
+declines line now limit drawn error.NoMemory is = λ more.
+    let within = is more in
+    let same = drawn_next (outcome line now limit (drawn ++ more)) in
+    omega arith
 
 -- the commands are those of the line, if none inserts a plugin
 pub accepts : (line : List ℕ) (now limit : ℕ) (drawn : List (List ℕ)) (commands : List Command) (result : Result (List Command) DeclareError)
@@ -57,7 +88,10 @@ accepts line now limit drawn commands (Ok same) are is ok err = λ more.
 accepts line now limit drawn commands (Err (error.Refused response)) are is ok err = λ more.
     let some = plugins_are commands are.inserts ∙ ap not err.1 in
     ap (next without_plugins) (is more) ∙ rw some (ap (λ r. Err (record { response = r; drawn = length drawn })) (sym err.0))
-accepts line now limit drawn commands (Err error.NoMemory) are is ok err = tt
+accepts line now limit drawn commands (Err error.NoMemory) are is ok err = λ more.
+    let same = drawn_next (outcome line now limit (drawn ++ more)) in
+    let all = ap drawn_for (is more) in
+    omega arith
 
 -- ---- what the call is answered
 
@@ -102,14 +136,12 @@ tells_refusal now limit bytes left before written drawn line response status fir
             written = front.2;
           },
         )))
-    by_cases (inr (inr six)) = inr (inr (inl (six, none six)))
+    by_cases (inr (inr six)) =
+        inr (inr (inl (six, within_decided (first_outcome (line_of bytes) now limit) drawn _ refl refused, none six)))
 
 -- nothing was written for want of memory
-pub tells_nothing : (now limit : ℕ) (bytes : List ℕ) (left written : Option (List ℕ)) (drawn : List (List ℕ))
+pub tells_nothing : (now limit : ℕ) (bytes : List ℕ) (left written : Option (List ℕ)) (drawn : List (List ℕ)) (line : FirstLine)
+    → GivesLine most_line bytes left line → AnswersLine (Err error.NoMemory) (read_outcome line now limit) drawn
     → AnswersFirst (record { now = now; limit = limit; bytes = bytes; left = left; before = written; written = written; drawn = drawn }) (Err 6)
-tells_nothing now limit bytes left written drawn = inr (inr (inl (refl, refl)))
-
--- and no id was drawn where the line could not be read
-pub tells_unread : (now limit : ℕ) (bytes : List ℕ) (left written : Option (List ℕ))
-    → AnswersFirst (record { now = now; limit = limit; bytes = bytes; left = left; before = written; written = written; drawn = [] }) (Err 4)
-tells_unread now limit bytes left written = inr (inl (refl, refl, refl))
+tells_nothing now limit bytes left written drawn line first within =
+    inr (inr (inl (refl, within_first bytes line left now limit drawn first within, refl)))

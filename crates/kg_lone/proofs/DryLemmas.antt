@@ -1,5 +1,5 @@
 -- The text of a dry run: it is determined by what was read, and a run that was cut short wrote a front of it.
-use Rattle.std.proofs.Common.{◌≡◌, ℕ, ◌+◌, ◌≤◌, ◌<◌, ◌==◌, ◌⊎◌, inl, inr, List, [], ◌∷◌, ◌++◌, Option, Some, None, Result, Ok, Err, length, refl, sym, ap, ◌∙◌, subst, arith}
+use Rattle.std.proofs.Common.{◌≡◌, ℕ, ◌+◌, ◌≤◌, ◌<◌, ◌==◌, ◌⊎◌, inl, inr, List, [], ◌∷◌, ◌++◌, Option, Some, None, Result, Ok, Err, IfOk, IfErr, length, refl, sym, ap, ◌∙◌, subst, arith}
 use Rattle.std.proofs.lemmas.List.{append_assoc, append-nil, length-append}
 use Rattle.std.proofs.lemmas.Grind.{flat_map-append}
 use Rattle.std.specs.List.{flat_map}
@@ -12,18 +12,20 @@ use Rattle.kg_declare.specs.Outcome.{Progress, Refused as RefusedLine}
 use Rattle.kg_declare.specs.Steps.{progress_after}
 use Rattle.kg_row_values.specs.Rows.{rows_after}
 use Rattle.kg_row_values.specs.declared.command.Command.{Command}
-use Rattle.kg_lone.specs.Answered.{AnswersFront, EndsWith}
+use Rattle.kg_plain.specs.Answered.{AnswersAll, AnswersFront}
+use Rattle.kg_plain.specs.Fronts.{IsFront}
+use Rattle.kg_plain.specs.Plain.{reply_to}
+use Rattle.kg_plain.specs.Replies.{EndsSo, GoOn, StopsIn, last_text, local_address, most_requests, texts}
+use Rattle.kg_plain.specs.declared.answers.End.{End}
+use Rattle.kg_plain.specs.declared.answers.End.TheVariants.{Closed, Asked, Spent, Bad, Cut}
+use Rattle.kg_plain.proofs.AnsweredLemmas.{each-push, texts-push}
+use Rattle.kg_plain.proofs.EndLemmas.{OnlyLastMayAsk, all_on, front_of_whole, is_last, one_end, same_whole}
 use Rattle.kg_lone.specs.DryRun.{IsCutShort, IsWhole}
-use Rattle.kg_lone.specs.DryText.{EndsSo, GoOn, IsCutText, IsDryText, StopsAtFirst, StopsBehind, StopsIn, WritesFront, WritesText, last_text, local_address, most_requests, most_rows, status_of, texts}
-use Rattle.kg_lone.specs.FirstCommands.{AnswersFirst, BeginsRefusal, Decides, FirstLineCall, IsFirstStatus, StopsFirst, WritesRefusal, first_outcome, refusal_line}
+use Rattle.kg_lone.specs.DryText.{IsCutText, IsDryText, IsEndOf, StopsAtFirst, StopsBehind, WritesFront, WritesText, exit_of, most_rows, status_of}
+use Rattle.kg_lone.specs.FirstCommands.{AnswersFirst, BeginsRefusal, Decides, DrawsWithin, FirstLineCall, IsFirstStatus, StopsFirst, WritesRefusal, first_outcome, refusal_line}
 use Rattle.kg_lone.specs.FirstLine.{line_of, after_line}
-use Rattle.kg_lone.specs.Fronts.{IsFront}
 use Rattle.kg_lone.specs.InsertedRows.{router_rows}
-use Rattle.kg_lone.specs.Plain.{reply_to}
-use Rattle.kg_lone.specs.declared.dry.End.{End}
-use Rattle.kg_lone.specs.declared.dry.End.TheVariants.{Bad}
-use Rattle.kg_lone.proofs.AnsweredLemmas.{each-push, texts-push}
-use Rattle.kg_lone.proofs.EndLemmas.{OnlyLastMayAsk, all_on, front_of_whole, is_last, one_end, same_whole}
+use Rattle.kg_lone.proofs.CommandLemmas.{within_decided}
 
 -- one outcome isn't two
 one_outcome : {P Q : Type 0} {x : Result P Q} {p q : P} → x ≡ Ok p → x ≡ Ok q → p ≡ q
@@ -75,14 +77,15 @@ front_within a b c end front within = front_front a b (c ++ end) front (within.0
 
 -- nothing was written for the first line
 first_nothing : (Drew : List (List ℕ) → Type 0) (Read : List ℕ → Type 0) (call : FirstLineCall)
-    → Drew call.drawn → Read (call.now ∷ []) → call.written ≡ call.before → WritesFront Drew Read call.bytes call.before call.written
-first_nothing Drew Read call drew read same = record {
+    → Drew call.drawn → Read (call.now ∷ []) → DrawsWithin (first_outcome (line_of call.bytes) call.now most_rows) call.drawn
+    → call.written ≡ call.before → WritesFront Drew Read call.bytes call.before call.written
+first_nothing Drew Read call drew read draws same = record {
   drawn = call.drawn;
   times = call.now ∷ [];
   front = [];
   drew = drew;
   read = read;
-  meant = inl (record { now = call.now; clock = refl; written = inl refl });
+  meant = inl (record { now = call.now; clock = refl; draws = draws; written = inl refl });
   written = same ∙ sym (with_end-nil call.before);
 }
 
@@ -92,8 +95,11 @@ first_nothing Drew Read call drew read same = record {
 pub first_front : (Drew : List (List ℕ) → Type 0) (Read : List ℕ → Type 0) (call : FirstLineCall) (status : ℕ)
     → call.limit ≡ most_rows → Drew call.drawn → Read (call.now ∷ [])
     → StopsFirst call status → WritesFront Drew Read call.bytes call.before call.written
-first_front Drew Read call status most drew read (inl (four, none, same)) = first_nothing Drew Read call drew read same
-first_front Drew Read call status most drew read (inr (inl (six, same))) = first_nothing Drew Read call drew read same
+first_front Drew Read call status most drew read (inl (four, none, same)) =
+    first_nothing Drew Read call drew read (λ more. let len = ap length none in omega arith) same
+first_front Drew Read call status most drew read (inr (inl (six, draws, same))) =
+    first_nothing Drew Read call drew read
+    (subst (λ limit. DrawsWithin (first_outcome (line_of call.bytes) call.now limit) call.drawn) most draws) same
 first_front Drew Read call status most drew read (inr (inr (five, is))) = record {
   drawn = call.drawn;
   times = call.now ∷ [];
@@ -103,6 +109,9 @@ first_front Drew Read call status most drew read (inr (inr (five, is))) = record
   meant = inl (record {
     now = call.now;
     clock = refl;
+    draws =
+        subst (λ limit. DrawsWithin (first_outcome (line_of call.bytes) call.now limit) call.drawn) most
+        (within_decided (first_outcome (line_of call.bytes) call.now call.limit) call.drawn _ refl is.begins.refused);
     written = inr (subst (λ limit. BeginsRefusal (line_of call.bytes) call.now limit call.drawn is.front) most is.begins);
   });
   written = is.written;
@@ -170,20 +179,19 @@ refusal_written Drew Read call most drew read is = record {
 
 -- the replies were written
 pub replies_written : (Drew : List (List ℕ) → Type 0) (Read Later : List ℕ → Type 0) (bytes : List ℕ) (left before written : Option (List ℕ))
-    (now : ℕ) (drawn : List (List ℕ)) (progress : Progress) (status : ℕ)
+    (now : ℕ) (drawn : List (List ℕ)) (progress : Progress) (end : End)
     → Decides (line_of bytes) now most_rows drawn (Ok progress) → progress.drawn ≡ length drawn
     → left ≡ Some (after_line bytes) → Drew drawn
     → ((times : List ℕ) → Later times → Read (now ∷ times))
-    → EndsWith (router_rows progress.rows) Later left before written status → WritesText Drew Read bytes before written status
-replies_written Drew Read Later bytes left before written now drawn progress status declared all told drew on ended =
-    let is = ended.all in
+    → AnswersAll (router_rows progress.rows) Later left before written end → WritesText Drew Read bytes before written (status_of end)
+replies_written Drew Read Later bytes left before written now drawn progress end declared all told drew on is =
     let done = is.answered in
     let ahead = seen_ahead (after_line bytes) (flat_map print_message is.messages) left is.ahead told done.whole in
     let replies = texts (router_rows progress.rows) 0 is.messages in
     record {
       drawn = drawn;
       times = now ∷ done.times;
-      text = replies ++ last_text ended.end;
+      text = replies ++ last_text end;
       drew = drew;
       read = on done.times done.read;
       meant = inl (record {
@@ -197,13 +205,25 @@ replies_written Drew Read Later bytes left before written now drawn progress sta
         rest = ahead.0;
         reading = record { whole = ahead.2; each = done.each };
         most = is.most;
-        end = ended.end;
+        end = end;
         ends = is.ends ahead.0 ahead.1;
         one_each = done.one_each;
         written = refl;
-        ending = ended.ending;
+        ending = refl;
       });
-      written = is.last ∙ ap (λ w. with_end w (last_text ended.end)) done.written ∙ sym (with_end-append before replies (last_text ended.end));
+      written = is.last ∙ ap (λ w. with_end w (last_text end)) done.written ∙ sym (with_end-append before replies (last_text end));
+    }
+
+-- the end that it came to
+pub end_of : (Later : List ℕ → Type 0) (bytes : List ℕ) (left before written : Option (List ℕ)) (rows : RouterRows) (end : End)
+    → left ≡ Some bytes → AnswersAll rows Later left before written end → IsEndOf bytes end
+end_of Later bytes left before written rows end told is =
+    let ahead = seen_ahead bytes (flat_map print_message is.messages) left is.ahead told is.answered.whole in
+    record {
+      messages = is.messages;
+      rest = ahead.0;
+      reading = record { whole = ahead.2; each = is.answered.each };
+      ends = is.ends ahead.0 ahead.1;
     }
 
 -- ---- one text
@@ -319,9 +339,11 @@ replies_go_on bytes rows ms ns rest left part front text end readings mine on fe
           ∙ sym (append_assoc (texts rows 0 ms) part is.begins.0),
     ) replies)
 replies_go_on bytes rows ms ns rest left part front text end readings mine on few (inr (inr (once, bad, begins))) yours most ends wrote writes =
-    let same = same_whole bytes ms ns rest left Bad end mine yours (omega arith) most (on, few, bad) ends in
+    let refused : End = Bad (length (flat_map print_message ms)) in
+    let here : EndsSo refused ms rest = (on, few, bad, refl) in
+    let same = same_whole bytes ms ns rest left refused end mine yours (omega arith) most here ends in
     let there = subst (EndsSo end ms) (sym same.1) (subst (λ xs. EndsSo end xs left) (sym same.0) ends) in
-    let closes : end ≡ Bad = one_end end Bad ms rest there (on, few, bad) in
+    let closes : end ≡ refused = one_end end refused ms rest there here in
     front_behind rows ms ns part front text (last_text end) wrote writes (
       begins.0,
       ap (λ xs. texts rows 0 xs ++ last_text end) (sym same.0)
@@ -352,20 +374,40 @@ goes_on bytes drawn more times later status front text (inr s) meant = behind_go
 
 -- ---- statuses
 
--- a run behind an accepted declaration isn't refused
-pub answered_whole : (status : ℕ) → IsWhole status → (status ≡ 0) ⊎ (status ≡ 7) ⊎ IsCutShort status → (status ≡ 0) ⊎ (status ≡ 7)
-answered_whole status (inl is) known = inl is
-answered_whole status (inr (inr is)) known = inr is
-answered_whole status (inr (inl is)) (inl zero) = absurd (omega arith)
-answered_whole status (inr (inl is)) (inr (inl seven)) = absurd (omega arith)
-answered_whole status (inr (inl is)) (inr (inr (inl four))) = absurd (omega arith)
-answered_whole status (inr (inl is)) (inr (inr (inr (inl five)))) = absurd (omega arith)
-answered_whole status (inr (inl is)) (inr (inr (inr (inr six)))) = absurd (omega arith)
+-- a run that came to an end wrote all, and one that stopped didn't
+end_status : (end : End) → IsWhole (status_of end)
+end_status Closed = inl refl
+end_status Asked = inl refl
+end_status Spent = inl refl
+end_status (Bad at) = inr (inr refl)
+end_status (Cut have) = inr (inr refl)
 
-pub answered_status : (status : ℕ) → (status ≡ 0) ⊎ (status ≡ 7) ⊎ IsCutShort status → IsWhole status ⊎ IsCutShort status
-answered_status status (inl zero) = inl (inl zero)
-answered_status status (inr (inl seven)) = inl (inr (inr seven))
-answered_status status (inr (inr short)) = inr short
+not_both_ways : (status : ℕ) → IsWhole status → IsCutShort status → ⊥
+not_both_ways status (inl zero) (inl four) = omega arith
+not_both_ways status (inl zero) (inr (inl five)) = omega arith
+not_both_ways status (inl zero) (inr (inr six)) = omega arith
+not_both_ways status (inr (inl three)) (inl four) = omega arith
+not_both_ways status (inr (inl three)) (inr (inl five)) = omega arith
+not_both_ways status (inr (inl three)) (inr (inr six)) = omega arith
+not_both_ways status (inr (inr seven)) (inl four) = omega arith
+not_both_ways status (inr (inr seven)) (inr (inl five)) = omega arith
+not_both_ways status (inr (inr seven)) (inr (inr six)) = omega arith
+
+pub answered_status : (F : Type 0) (result : Result End ℕ) → IfErr result (λ status. IsCutShort status × F)
+    → IsWhole (exit_of result) ⊎ IsCutShort (exit_of result)
+answered_status F (Ok end) err = inl (end_status end)
+answered_status F (Err status) err = inr err.0
+
+-- what holds of each end holds of a run that wasn't cut short
+pub answered_whole : (F : Type 0) (W : ℕ → Type 0) (result : Result End ℕ) → IfErr result (λ status. IsCutShort status × F)
+    → IfOk result (λ end. W (status_of end)) → IsWhole (exit_of result) → W (exit_of result)
+answered_whole F W (Ok end) err ok whole = ok
+answered_whole F W (Err status) err ok whole = absurd (not_both_ways status whole err.0)
+
+-- and what holds of each stop of one that was
+pub answered_short : (F : Type 0) (result : Result End ℕ) → IfErr result (λ status. IsCutShort status × F) → IsCutShort (exit_of result) → F
+answered_short F (Ok end) err short = absurd (not_both_ways (status_of end) (end_status end) short)
+answered_short F (Err status) err short = err.1
 
 pub first_status : (status : ℕ) → IsFirstStatus status → IsWhole status ⊎ IsCutShort status
 first_status status (inl three) = inl (inr (inl three))
@@ -390,9 +432,9 @@ refuses call status (inl is) whole = is
 refuses call status (inr (inl (four, none, is))) (inl zero) = absurd (omega arith)
 refuses call status (inr (inl (four, none, is))) (inr (inl three)) = absurd (omega arith)
 refuses call status (inr (inl (four, none, is))) (inr (inr seven)) = absurd (omega arith)
-refuses call status (inr (inr (inl (six, is)))) (inl zero) = absurd (omega arith)
-refuses call status (inr (inr (inl (six, is)))) (inr (inl three)) = absurd (omega arith)
-refuses call status (inr (inr (inl (six, is)))) (inr (inr seven)) = absurd (omega arith)
+refuses call status (inr (inr (inl (six, draws, is)))) (inl zero) = absurd (omega arith)
+refuses call status (inr (inr (inl (six, draws, is)))) (inr (inl three)) = absurd (omega arith)
+refuses call status (inr (inr (inl (six, draws, is)))) (inr (inr seven)) = absurd (omega arith)
 refuses call status (inr (inr (inr (five, is)))) (inl zero) = absurd (omega arith)
 refuses call status (inr (inr (inr (five, is)))) (inr (inl three)) = absurd (omega arith)
 refuses call status (inr (inr (inr (five, is)))) (inr (inr seven)) = absurd (omega arith)
@@ -436,14 +478,24 @@ refused_front Drew Read bytes left before written now drawn status drew read sho
 
 -- behind the commands
 pub answered_text : (Drew : List (List ℕ) → Type 0) (Read Later : List ℕ → Type 0) (bytes : List ℕ) (left before middle written : Option (List ℕ))
-    (now : ℕ) (drawn : List (List ℕ)) (commands : List Command) (status : ℕ)
+    (now : ℕ) (drawn : List (List ℕ)) (commands : List Command) (result : Result End ℕ)
     → AnswersFirst (first_call now bytes left before middle drawn) (Ok commands) → middle ≡ before → Drew drawn
     → ((times : List ℕ) → Later times → Read (now ∷ times))
-    → EndsWith (router_rows (rows_after commands)) Later left middle written status → WritesText Drew Read bytes before written status
-answered_text Drew Read Later bytes left before middle written now drawn commands status gives same drew on ended =
-    replies_written Drew Read Later bytes left before written now drawn (progress_after commands (length drawn)) status
+    → IfOk result (AnswersAll (router_rows (rows_after commands)) Later left middle written)
+    → IfOk result (λ end. WritesText Drew Read bytes before written (status_of end))
+answered_text Drew Read Later bytes left before middle written now drawn commands (Err status) gives same drew on ended = tt
+answered_text Drew Read Later bytes left before middle written now drawn commands (Ok end) gives same drew on ended =
+    replies_written Drew Read Later bytes left before written now drawn (progress_after commands (length drawn)) end
     gives.declared refl gives.after drew on
-    (subst (λ w. EndsWith (router_rows (rows_after commands)) Later left w written status) same ended)
+    (subst (λ w. AnswersAll (router_rows (rows_after commands)) Later left w written end) same ended)
+
+pub answered_end : (Later : List ℕ → Type 0) (bytes : List ℕ) (left before middle written : Option (List ℕ))
+    (now : ℕ) (drawn : List (List ℕ)) (commands : List Command) (result : Result End ℕ)
+    → AnswersFirst (first_call now bytes left before middle drawn) (Ok commands)
+    → IfOk result (AnswersAll (router_rows (rows_after commands)) Later left middle written) → IfOk result (IsEndOf (after_line bytes))
+answered_end Later bytes left before middle written now drawn commands (Err status) gives ended = tt
+answered_end Later bytes left before middle written now drawn commands (Ok end) gives ended =
+    end_of Later (after_line bytes) left middle written (router_rows (rows_after commands)) end gives.after ended
 
 pub answered_front : (Drew : List (List ℕ) → Type 0) (Read Later : List ℕ → Type 0) (bytes : List ℕ) (left before middle written : Option (List ℕ))
     (now : ℕ) (drawn : List (List ℕ)) (commands : List Command)

@@ -1,13 +1,13 @@
 -- What a first line gives: the commands of its declaration, or its refusal (this project's own:
 -- docs/BEHAVIOUR.md, "The dry run").
-use Rattle.std.specs.Prelude.{◌≡◌, ℕ, ◌==◌, nat_lt, ◌⊎◌, List, [], ◌++◌, length, codes, Option, Some, Result, Ok, Err, if◌then◌else◌}
-use Rattle.kg_declare.specs.Outcome.{Progress, Refused, next, outcome}
+use Rattle.std.specs.Prelude.{◌≡◌, ℕ, ◌≤◌, ◌==◌, nat_lt, ◌⊎◌, List, [], ◌++◌, length, codes, Option, Some, Result, Ok, Err, if◌then◌else◌}
+use Rattle.kg_declare.specs.Outcome.{Progress, Refused, drawn_for, next, outcome}
 use Rattle.kg_declare.specs.Steps.{progress_after}
 use Rattle.kg_lone.specs.FirstLine.{line_of, after_line}
-use Rattle.kg_lone.specs.Fronts.{IsFront}
 use Rattle.kg_message.specs.GatewayMessage.{gateway_message}
 use Rattle.kg_message.specs.declared.response.Response.{Response}
 use Rattle.kg_outside.specs.Moves.{with_end}
+use Rattle.kg_plain.specs.Fronts.{IsFront}
 use Rattle.kg_row_values.specs.declared.command.Command.{Command}
 
 -- how many bytes the first line may have, its line feed left aside
@@ -46,6 +46,10 @@ first_outcome line now limit draws =
 -- exactly these ids are drawn for it, and they decide what becomes of it, whatever is drawn after them
 abbrev pub Decides : List ℕ → ℕ → ℕ → List (List ℕ) → Result Progress Refused → Type 0
 Decides line now limit drawn answer = (more : List (List ℕ)) → first_outcome line now limit (drawn ++ more) ≡ answer
+
+-- no more ids were drawn than are drawn for what is meant, whatever ids are drawn after them
+abbrev pub DrawsWithin : (List (List ℕ) → Result Progress Refused) → List (List ℕ) → Type 0
+DrawsWithin meant drawn = (more : List (List ℕ)) → length drawn ≤ drawn_for (meant (drawn ++ more))
 
 -- ---- what is written
 
@@ -94,11 +98,11 @@ pub record WritesRefusalFront (call : FirstLineCall) : Type 0 where
   pub written : call.written ≡ with_end call.before front
 
 -- the call was cut short: by a fault of the source before an id was drawn or anything written, by want of memory
--- before anything was written, or by a fault of the sink in the refusal
+-- before anything was written, with no more ids drawn than for the line, or by a fault of the sink in the refusal
 abbrev pub StopsFirst : FirstLineCall → ℕ → Type 0
 StopsFirst call status =
     ((status ≡ 4) × (call.drawn ≡ []) × (call.written ≡ call.before))
-    ⊎ ((status ≡ 6) × (call.written ≡ call.before))
+    ⊎ ((status ≡ 6) × DrawsWithin (first_outcome (line_of call.bytes) call.now call.limit) call.drawn × (call.written ≡ call.before))
     ⊎ ((status ≡ 5) × WritesRefusalFront call)
 
 -- the commands are given, the line is refused with the status 3, or the call was cut short

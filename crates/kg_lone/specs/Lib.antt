@@ -1,12 +1,6 @@
-pub mod Answered
 pub mod DryRun
 pub mod DryText
-pub mod Echo
 pub mod FirstCommands
 pub mod FirstLine
-pub mod Fronts
 pub mod InsertedRows
 pub mod LineSteps
-pub mod Plain
-pub mod UpstreamFields
-pub mod UpstreamPath

@@ -4,7 +4,7 @@ use Rattle.kg_declare.specs.Outcome.{Progress, Refused}
 use Rattle.kg_declare.specs.Steps.{progress_after}
 use Rattle.kg_declare.specs.declared.error.DeclareError.{DeclareError}
 use Rattle.kg_declare.specs.declared.error.DeclareError.TheVariants as error
-use Rattle.kg_lone.specs.FirstCommands.{bad_line, run_outcome}
+use Rattle.kg_lone.specs.FirstCommands.{DrawsWithin, bad_line, run_outcome}
 use Rattle.kg_lone.specs.declared.line.FirstLine.{FirstLine}
 use Rattle.kg_lone.specs.declared.line.FirstLine.TheVariants.{Whole, TooLong}
 use Rattle.kg_message.specs.declared.response.Response.{Response}
@@ -26,9 +26,9 @@ DecidesMeant meant drawn answer = (more : List (List ℕ)) → meant (drawn ++ m
 
 abbrev pub IsRefusedLine : DeclareError → (List (List ℕ) → Result Progress Refused) → List (List ℕ) → Type 0
 IsRefusedLine (error.Refused response) meant drawn = DecidesMeant meant drawn (Err (record { response = response; drawn = length drawn }))
-IsRefusedLine error.NoMemory meant drawn = ⊤
+IsRefusedLine error.NoMemory meant drawn = DrawsWithin meant drawn
 
--- the commands that are meant, or the refusal; want of memory is free
+-- the commands that are meant, or the refusal; want of memory draws no more ids
 abbrev pub AnswersLine : Result (List Command) DeclareError → (List (List ℕ) → Result Progress Refused) → List (List ℕ) → Type 0
 AnswersLine (Ok commands) meant drawn = DecidesMeant meant drawn (Ok (progress_after commands (length drawn)))
 AnswersLine (Err e) meant drawn = IsRefusedLine e meant drawn

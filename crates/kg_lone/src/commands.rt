@@ -5,8 +5,8 @@ ghost use Rattle.kg_declare.specs.Histories.{AreInsertions};
 ghost use Rattle.kg_message.specs.GatewayMessage.{gateway_message};
 ghost use Rattle.kg_outside.specs.Causes.{Rose};
 ghost use Rattle.kg_outside.specs.Moves.{with_end};
+ghost use Rattle.kg_plain.specs.Fronts.{IsFront};
 ghost use Rattle.kg_lone.specs.FirstCommands.{AnswersFirst, Drew, FirstLineCall, IsFirstStatus, not_built, refusal_line};
-ghost use Rattle.kg_lone.specs.Fronts.{IsFront};
 ghost use Rattle.kg_lone.specs.InsertedRows.{has_plugin, is_plugin};
 ghost use Rattle.kg_lone.specs.LineSteps.{AnswersLine, RefusesWith, read_outcome};
 

@@ -1,210 +1,74 @@
 //! The dry run: a declaration and requests on one stream, the replies on another.
 
-ghost use Rattle.std.specs.Prelude.{◌≡◌, ◌⊎◌, ◌↔◌, ℕ, List as Sequence, [], ◌∷◌, ◌++◌, Some, IsTrue, IfOk, OnOk, OnErr, IsErrOf};
+ghost use Rattle.std.specs.Prelude.{◌≡◌, ◌⊎◌, ◌↔◌, ℕ, List as Sequence, ◌∷◌, ◌++◌, Err, Some, IsTrue, IfErr, IfOk, OnOk};
 ghost use Rattle.kg_outside.specs.Causes.{Rose};
-ghost use Rattle.kg_outside.specs.Moves.{with_end};
 ghost use Rattle.kg_declare.specs.Histories.{AreInsertions};
 ghost use Rattle.kg_row_values.specs.Rows.{rows_after};
-ghost use Rattle.kg_lone.specs.Answered.{AnswersAll, AnswersFront, EndsWith};
+ghost use Rattle.kg_plain.specs.Answered.{AnswersAll, AnswersFront};
+ghost use Rattle.kg_plain.specs.Fronts.{IsFront};
 ghost use Rattle.kg_lone.specs.DryRun.{IsCutShort, IsDryWords, IsExit, IsWhole};
-ghost use Rattle.kg_lone.specs.DryText.{IsCutText, IsDryText, WritesFront, WritesText, most_rows};
-ghost use Rattle.kg_lone.specs.Fronts.{IsFront};
+ghost use Rattle.kg_lone.specs.DryText.{IsCutText, IsDryText, IsEndOf, WritesFront, WritesText, exit_of, most_rows, status_of};
+ghost use Rattle.kg_lone.specs.FirstLine.{after_line};
 ghost use Rattle.kg_lone.specs.InsertedRows.{router_rows};
-ghost use Rattle.kg_lone.specs.Plain.{bad_request_text, reply_to};
 
 use crate::commands::first_commands;
-use crate::gateway::{Gateway, bad_request_text};
 use crate::rows::router_of;
 use crate::status::{BROKEN, DONE, OTHER_WORDS, OUT_OF_MEMORY, READ_FAULT, WRITE_FAULT};
-use kg_message::Request;
-use kg_outside::{Clock, Failed, Ids, Sink, Source};
+use kg_outside::{Clock, Ids, Sink, Source};
+use kg_plain::{End, Gateway, Stop, answer_all};
 use kg_rows::Command;
 use kg_text::{List, NoMemory, Text};
-use kg_wire::{ReadError, Reader, asks_for_end, write_whole};
 use std::alloc::Global;
-
-// How many requests one connection answers.
-const MOST_REQUESTS: u32 = 1000;
 
 // How many rows of a kind a declaration may have.
 const MOST_ROWS: u32 = 100_000;
 
-// The address that every request of a dry run comes from.
-const LOCAL_ADDRESS: [u8; 4] = [127, 0, 0, 1];
-
-/// How a run ended that was not cut short.
-#[derive(Clone, Copy)]
-pub enum End {
-    /// The stream ended between two messages.
-    Closed,
-    /// The last request asked for the end of the connection.
-    Asked,
-    /// As many requests were answered as one connection may have.
-    Spent,
-    /// The next message was refused.
-    Bad,
-    /// The stream ended inside a message.
-    Cut,
-}
-
-/// Why a run was cut short.
-#[derive(Clone, Copy)]
-pub enum Stop {
-    ReadFault,
-    WriteFault,
-    NoMemory,
-}
-
-impl From<NoMemory> for Stop {
-    ghost use Rattle.kg_lone.specs.declared.dry.Stop.TheVariants.{NoMemory as OutOfMemory};
-
-    ghost from_gives = { λ _ stop. stop ≡ OutOfMemory };
-
-    fn from(_: NoMemory) -> Stop {
-        Stop::NoMemory
-    }
-}
-
-impl From<Failed> for Stop {
-    ghost use Rattle.kg_lone.specs.declared.dry.Stop.TheVariants.{WriteFault};
-
-    ghost from_gives = { λ _ stop. stop ≡ WriteFault };
-
-    fn from(_: Failed) -> Stop {
-        Stop::WriteFault
-    }
-}
-
-// Answers one request, with the clock read once before it.
-fn answer_one<K: Sink, T: Clock>(
-    alloc: Global,
-    gateway: &mut Gateway,
-    request: &Request,
-    last: bool,
-    sink: &mut K,
-    clock: &mut T,
-) -> Result<(), Stop>
-    ensures rows { gateway.new ≡ gateway.old }
-    ensures ok { OnOk result (K.written sink.new ≡ with_end (K.written sink.old) (reply_to gateway.old last request.now)) }
-    ensures err { OnErr result ((front : Sequence ℕ) × (IsFront front (reply_to gateway.old last request.now))
-        × (K.written sink.new ≡ with_end (K.written sink.old) front)) }
-    ensures clock { (time : ℕ) × T.reads clock.old clock.new (time ∷ []) }
-    ensures kept { OnOk result (K.faults sink.new ≡ K.faults sink.old) }
-    ensures read { IsErrOf result Stop.ReadFault → ⊥ }
-    ensures write { IsErrOf result Stop.WriteFault → Rose (K.faults sink.old) (K.faults sink.new) }
-{
-    clock.now();
-    let text = gateway.reply_to(alloc, request, last)?;
-    write_whole(sink, text.as_slice())?;
-    Ok(())
-}
-
-// Answers a message that is refused.
-fn answer_bad<K: Sink>(alloc: Global, sink: &mut K) -> Result<(), Stop>
-    ensures ok { OnOk result (K.written sink.new ≡ with_end (K.written sink.old) bad_request_text) }
-    ensures err { OnErr result ((front : Sequence ℕ) × (IsFront front bad_request_text)
-        × (K.written sink.new ≡ with_end (K.written sink.old) front)) }
-    ensures kept { OnOk result (K.faults sink.new ≡ K.faults sink.old) }
-    ensures read { IsErrOf result Stop.ReadFault → ⊥ }
-    ensures write { IsErrOf result Stop.WriteFault → Rose (K.faults sink.old) (K.faults sink.new) }
-{
-    let refusal = bad_request_text(alloc)?;
-    write_whole(sink, refusal.as_slice())?;
-    Ok(())
-}
-
-// Answers the requests of the source, one after another.
-fn answer_all<S: Source, K: Sink, T: Clock>(
-    alloc: Global,
-    gateway: &mut Gateway,
-    source: &mut S,
-    sink: &mut K,
-    clock: &mut T,
-) -> Result<End, Stop>
-    ensures ok { IfOk result (AnswersAll gateway.old (T.reads clock.old clock.new) (S.left source.old) (K.written sink.old) (K.written sink.new)) }
-    ensures err { OnErr result (AnswersFront gateway.old (T.reads clock.old clock.new) (S.left source.old) (K.written sink.old) (K.written sink.new)) }
-    ensures kept_read { OnOk result (S.faults source.new ≡ S.faults source.old) }
-    ensures kept_write { OnOk result (K.faults sink.new ≡ K.faults sink.old) }
-    ensures read { IsErrOf result Stop.ReadFault → Rose (S.faults source.old) (S.faults source.new) }
-    ensures write { IsErrOf result Stop.WriteFault → Rose (K.faults sink.old) (K.faults sink.new) }
-{
-    let mut reader = Reader::new(alloc, LOCAL_ADDRESS)?;
-    let mut count = 0;
-    while count < MOST_REQUESTS {
-        match reader.next_request(alloc, source) {
-            Ok(Some(request)) => {
-                let last = count + 1 == MOST_REQUESTS;
-                answer_one(alloc, gateway, &request, last, sink, clock)?;
-                if asks_for_end(&request) {
-                    return Ok(End::Asked);
-                }
-                count += 1;
-            }
-            Ok(None) => return Ok(End::Closed),
-            Err(ReadError::Bad { at: _ }) => {
-                answer_bad(alloc, sink)?;
-                return Ok(End::Bad);
-            }
-            Err(ReadError::HeadTooLarge) => unreachable!(),
-            Err(ReadError::BodyTooLarge) => unreachable!(),
-            Err(ReadError::Cut { have: _ }) => return Ok(End::Cut),
-            Err(ReadError::ReadFault) => return Err(Stop::ReadFault),
-            Err(ReadError::NoMemory) => return Err(Stop::NoMemory),
-        }
-    }
-    Ok(End::Spent)
-}
-
-// Answers the requests of the source, and gives the status.
-fn answered_by<S: Source, K: Sink, T: Clock>(
-    alloc: Global,
-    gateway: &mut Gateway,
-    source: &mut S,
-    sink: &mut K,
-    clock: &mut T,
-) -> u8
-    ensures statuses { (result ≡ 0) ⊎ (result ≡ 7) ⊎ IsCutShort result }
-    ensures whole { (result ≡ 0) ⊎ (result ≡ 7)
-        → EndsWith gateway.old (T.reads clock.old clock.new) (S.left source.old) (K.written sink.old) (K.written sink.new) result }
-    ensures front { IsCutShort result
-        → AnswersFront gateway.old (T.reads clock.old clock.new) (S.left source.old) (K.written sink.old) (K.written sink.new) }
-    ensures kept { (result ≡ 0) ⊎ (result ≡ 7) → (S.faults source.new ≡ S.faults source.old) × (K.faults sink.new ≡ K.faults sink.old) }
-    ensures read { result ≡ 4 → Rose (S.faults source.old) (S.faults source.new) }
-    ensures write { result ≡ 5 → Rose (K.faults sink.old) (K.faults sink.new) }
-{
-    match answer_all(alloc, gateway, source, sink, clock) {
-        Ok(End::Closed) => DONE,
-        Ok(End::Asked) => DONE,
-        Ok(End::Spent) => DONE,
-        Ok(End::Bad) => BROKEN,
-        Ok(End::Cut) => BROKEN,
-        Err(Stop::ReadFault) => READ_FAULT,
-        Err(Stop::WriteFault) => WRITE_FAULT,
-        Err(Stop::NoMemory) => OUT_OF_MEMORY,
-    }
-}
-
-// Answers the requests behind a declaration by its rows, and gives the status.
+// Answers the requests behind a declaration by its rows. An error is the status of what cut it short.
 fn answered<S: Source, K: Sink, T: Clock>(
     alloc: Global,
     commands: List<Command>,
     source: &mut S,
     sink: &mut K,
     clock: &mut T,
-) -> u8
+) -> Result<End, u8>
     requires { AreInsertions most_rows commands }
-    ensures statuses { (result ≡ 0) ⊎ (result ≡ 7) ⊎ IsCutShort result }
-    ensures whole { (result ≡ 0) ⊎ (result ≡ 7)
-        → EndsWith (router_rows (rows_after commands)) (T.reads clock.old clock.new) (S.left source.old) (K.written sink.old) (K.written sink.new) result }
-    ensures front { IsCutShort result
-        → AnswersFront (router_rows (rows_after commands)) (T.reads clock.old clock.new) (S.left source.old) (K.written sink.old) (K.written sink.new) }
-    ensures kept { (result ≡ 0) ⊎ (result ≡ 7) → (S.faults source.new ≡ S.faults source.old) × (K.faults sink.new ≡ K.faults sink.old) }
-    ensures read { result ≡ 4 → Rose (S.faults source.old) (S.faults source.new) }
-    ensures write { result ≡ 5 → Rose (K.faults sink.old) (K.faults sink.new) }
+    ensures ok { IfOk result (AnswersAll (router_rows (rows_after commands)) (T.reads clock.old clock.new) (S.left source.old) (K.written sink.old) (K.written sink.new)) }
+    ensures err { IfErr result (λ status. IsCutShort status
+        × AnswersFront (router_rows (rows_after commands)) (T.reads clock.old clock.new) (S.left source.old) (K.written sink.old) (K.written sink.new)) }
+    ensures kept { OnOk result ((S.faults source.new ≡ S.faults source.old) × (K.faults sink.new ≡ K.faults sink.old)) }
+    ensures read { result ≡ Err 4 → Rose (S.faults source.old) (S.faults source.new) }
+    ensures write { result ≡ Err 5 → Rose (K.faults sink.old) (K.faults sink.new) }
 {
     match gateway_of(alloc, commands) {
-        Ok(mut gateway) => answered_by(alloc, &mut gateway, source, sink, clock),
-        Err(NoMemory) => OUT_OF_MEMORY,
+        Ok(gateway) => answered_by(alloc, gateway, source, sink, clock),
+        Err(NoMemory) => Err(OUT_OF_MEMORY),
+    }
+}
+
+// Answers the requests of the source.
+fn answered_by<S: Source, K: Sink, T: Clock>(
+    alloc: Global,
+    gateway: Gateway,
+    source: &mut S,
+    sink: &mut K,
+    clock: &mut T,
+) -> Result<End, u8>
+    ensures ok { IfOk result (AnswersAll gateway (T.reads clock.old clock.new) (S.left source.old) (K.written sink.old) (K.written sink.new)) }
+    ensures err { IfErr result (λ status. IsCutShort status
+        × AnswersFront gateway (T.reads clock.old clock.new) (S.left source.old) (K.written sink.old) (K.written sink.new)) }
+    ensures kept { OnOk result ((S.faults source.new ≡ S.faults source.old) × (K.faults sink.new ≡ K.faults sink.old)) }
+    ensures read { result ≡ Err 4 → Rose (S.faults source.old) (S.faults source.new) }
+    ensures write { result ≡ Err 5 → Rose (K.faults sink.old) (K.faults sink.new) }
+{
+    let mut gateway = gateway;
+    let end = answer_all(alloc, &mut gateway, source, sink, clock);
+    // let go by name: a short proof
+    drop(gateway);
+    match end {
+        Ok(end) => Ok(end),
+        Err(Stop::ReadFault) => Err(READ_FAULT),
+        Err(Stop::WriteFault) => Err(WRITE_FAULT),
+        Err(Stop::NoMemory) => Err(OUT_OF_MEMORY),
     }
 }
 
@@ -222,20 +86,21 @@ fn dry<S: Source, K: Sink, T: Clock, I: Ids>(
     sink: &mut K,
     clock: &mut T,
     ids: &mut I,
-) -> u8
-    ensures statuses { IsWhole result ⊎ IsCutShort result }
-    ensures whole { IsWhole result → (bytes : Sequence ℕ) → S.left source.old ≡ Some bytes
-        → WritesText (I.draws ids.old ids.new) (T.reads clock.old clock.new) bytes (K.written sink.old) (K.written sink.new) result }
-    ensures front { IsCutShort result → (bytes : Sequence ℕ) → S.left source.old ≡ Some bytes
+) -> Result<End, u8>
+    ensures statuses { IsWhole (exit_of result) ⊎ IsCutShort (exit_of result) }
+    ensures whole { IsWhole (exit_of result) → (bytes : Sequence ℕ) → S.left source.old ≡ Some bytes
+        → WritesText (I.draws ids.old ids.new) (T.reads clock.old clock.new) bytes (K.written sink.old) (K.written sink.new) (exit_of result) }
+    ensures front { IsCutShort (exit_of result) → (bytes : Sequence ℕ) → S.left source.old ≡ Some bytes
         → WritesFront (I.draws ids.old ids.new) (T.reads clock.old clock.new) bytes (K.written sink.old) (K.written sink.new) }
-    ensures kept { IsWhole result → (S.faults source.new ≡ S.faults source.old) × (K.faults sink.new ≡ K.faults sink.old) }
-    ensures read { result ≡ 4 → Rose (S.faults source.old) (S.faults source.new) }
-    ensures write { result ≡ 5 → Rose (K.faults sink.old) (K.faults sink.new) }
+    ensures end { (bytes : Sequence ℕ) → S.left source.old ≡ Some bytes → IfOk result (IsEndOf (after_line bytes)) }
+    ensures kept { IsWhole (exit_of result) → (S.faults source.new ≡ S.faults source.old) × (K.faults sink.new ≡ K.faults sink.old) }
+    ensures read { exit_of result ≡ 4 → Rose (S.faults source.old) (S.faults source.new) }
+    ensures write { exit_of result ≡ 5 → Rose (K.faults sink.old) (K.faults sink.new) }
 {
     let now = clock.now();
     match first_commands(alloc, source, sink, ids, now, MOST_ROWS) {
         Ok(commands) => answered(alloc, commands, source, sink, clock),
-        Err(status) => status,
+        Err(status) => Err(status),
     }
 }
 
@@ -288,10 +153,60 @@ pub fn run<S: Source, K: Sink, T: Clock, I: Ids>(
     ensures read { result ≡ 4 → Rose (S.faults source.old) (S.faults source.new) }
     ensures write { result ≡ 5 → Rose (K.faults sink.old) (K.faults sink.new) }
 {
+    match run_to_end(alloc, words, source, sink, clock, ids) {
+        Ok(end) => exit_status(end),
+        Err(status) => status,
+    }
+}
+
+/// As `run`, but it also tells how the answering of the requests ended, where it came to an end. An error is the
+/// exit status of a run that did not: other words, a refused declaration, or what cut it short.
+pub fn run_to_end<S: Source, K: Sink, T: Clock, I: Ids>(
+    alloc: Global,
+    words: &List<Text>,
+    source: &mut S,
+    sink: &mut K,
+    clock: &mut T,
+    ids: &mut I,
+) -> Result<End, u8>
+    ensures statuses { IsExit (exit_of result) }
+
+    // Other words: nothing is read or written.
+    ensures words { (exit_of result ≡ 2) ↔ (¬ (IsDryWords words.now)) }
+    ensures untouched { exit_of result ≡ 2 → (source.new ≡ source.old) × (sink.new ≡ sink.old) × (clock.new ≡ clock.old) × (ids.new ≡ ids.old) }
+
+    // The whole text; or, where the run was cut short, what it had come to: in the first line nothing or a
+    // front of the refusal, and behind it whole replies and a front of what comes next.
+    ensures whole { IsWhole (exit_of result) → (bytes : Sequence ℕ) → S.left source.old ≡ Some bytes
+        → WritesText (I.draws ids.old ids.new) (T.reads clock.old clock.new) bytes (K.written sink.old) (K.written sink.new) (exit_of result) }
+    ensures front { IsCutShort (exit_of result) → (bytes : Sequence ℕ) → S.left source.old ≡ Some bytes
+        → WritesFront (I.draws ids.old ids.new) (T.reads clock.old clock.new) bytes (K.written sink.old) (K.written sink.new) }
+
+    // A fault is told exactly where the environment failed.
+    ensures kept { IsWhole (exit_of result) → (S.faults source.new ≡ S.faults source.old) × (K.faults sink.new ≡ K.faults sink.old) }
+    ensures read { exit_of result ≡ 4 → Rose (S.faults source.old) (S.faults source.new) }
+    ensures write { exit_of result ≡ 5 → Rose (K.faults sink.old) (K.faults sink.new) }
+
+    // The end that it came to.
+    ensures end { (bytes : Sequence ℕ) → S.left source.old ≡ Some bytes → IfOk result (IsEndOf (after_line bytes)) }
+{
     if is_dry(words) {
         dry(alloc, source, sink, clock, ids)
     } else {
-        OTHER_WORDS
+        Err(OTHER_WORDS)
+    }
+}
+
+/// The exit status of a run that came to this end: 7 where a message was refused or cut off, else 0.
+pub fn exit_status(end: End) -> u8
+    ensures { result ≡ status_of end }
+{
+    match end {
+        End::Closed => DONE,
+        End::Asked => DONE,
+        End::Spent => DONE,
+        End::Bad { at: _ } => BROKEN,
+        End::Cut { have: _ } => BROKEN,
     }
 }
 

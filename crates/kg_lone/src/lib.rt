@@ -4,14 +4,10 @@
 
 mod commands;
 mod dry;
-mod echo;
-mod gateway;
 mod line;
 mod rows;
 mod status;
-mod upstream;
-mod upstream_fields;
-mod upstream_path;
 
 pub use crate::commands::first_commands;
-pub use crate::dry::{cut_text_goes_on, one_text, run};
+pub use crate::dry::{cut_text_goes_on, exit_status, one_text, run, run_to_end};
+pub use kg_plain::End;

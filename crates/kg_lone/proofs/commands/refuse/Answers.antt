@@ -1,5 +1,5 @@
 use Rattle.std.proofs.Common.{◌∙◌}
-use Rattle.kg_lone.proofs.AnsweredLemmas.{front_written}
+use Rattle.kg_plain.proofs.AnsweredLemmas.{front_written}
 use Rattle.kg_lone.proofs.commands.refuse.Goals as goal
 
 -- a front of the refusal is written

@@ -1,10 +1,11 @@
-use Rattle.std.proofs.Common.{◌∷◌, [], ap, ◌∙◌}
-use Rattle.kg_lone.proofs.DryLemmas.{answered_front, answered_status, answered_text, answered_whole, first_status, is_three, refused_front, refused_whole}
+use Rattle.std.proofs.Common.{◌≡◌, ◌∷◌, [], ap, ◌∙◌}
+use Rattle.kg_lone.specs.DryText.{WritesText}
+use Rattle.kg_lone.proofs.DryLemmas.{answered_end, answered_front, answered_short, answered_status, answered_text, answered_whole, first_status, is_three, refused_front, refused_whole}
 use Rattle.kg_lone.proofs.dry.dry.Goals as goal
 
 -- the status of each
 pub returns-in-Ok-clause-statuses : goal.returns-in-Ok-clause-statuses
-returns-in-Ok-clause-statuses g c = answered_status _ c.answered.ensures.statuses
+returns-in-Ok-clause-statuses g c = answered_status _ _ c.answered.ensures.err
 
 pub returns-in-Err-clause-statuses : goal.returns-in-Err-clause-statuses
 returns-in-Err-clause-statuses g c = first_status _ c.in-Err.ensures.statuses
@@ -13,10 +14,11 @@ returns-in-Err-clause-statuses g c = first_status _ c.in-Err.ensures.statuses
 pub returns-in-Ok-clause-whole : goal.returns-in-Ok-clause-whole
 returns-in-Ok-clause-whole g c whole bytes seen =
     let drew = c.first_commands.ensures.line in
-    answered_text _ _ _ bytes _ _ _ _ c.now-now.result drew.drawn c.in-Ok.commands _
+    answered_whole _ (WritesText (g.I.Ids.draws c.args.ids.now c.first_commands.new.ids) (g.T.Clock.reads c.args.clock.now c.answered.new.clock) bytes
+    (g.K.Sink.written c.args.sink.now) (g.K.Sink.written c.answered.new.sink)) _ c.answered.ensures.err
+    (answered_text _ _ _ bytes _ _ _ _ c.now-now.result drew.drawn c.in-Ok.commands _
     (rw c.in-Ok.is at (drew.says bytes seen)) (ap g.K.Sink.written c.in-Ok.ensures.unwritten) drew.moved
-    (λ times read. g.met.T.Clock.reads_on _ _ _ (c.now-now.result ∷ []) times c.now-now.ensures read)
-    (c.answered.ensures.whole (answered_whole _ whole c.answered.ensures.statuses))
+    (λ times read. g.met.T.Clock.reads_on _ _ _ (c.now-now.result ∷ []) times c.now-now.ensures read) c.answered.ensures.ok) whole
 
 -- or a front of them
 pub returns-in-Ok-clause-front : goal.returns-in-Ok-clause-front
@@ -25,7 +27,13 @@ returns-in-Ok-clause-front g c short bytes seen =
     answered_front _ _ _ bytes _ _ _ _ c.now-now.result drew.drawn c.in-Ok.commands
     (rw c.in-Ok.is at (drew.says bytes seen)) (ap g.K.Sink.written c.in-Ok.ensures.unwritten) drew.moved
     (λ times read. g.met.T.Clock.reads_on _ _ _ (c.now-now.result ∷ []) times c.now-now.ensures read)
-    (c.answered.ensures.front short)
+    (answered_short _ _ c.answered.ensures.err short)
+
+-- up to the end
+pub returns-in-Ok-clause-end : goal.returns-in-Ok-clause-end
+returns-in-Ok-clause-end g c bytes seen =
+    let drew = c.first_commands.ensures.line in
+    answered_end _ bytes _ _ _ _ c.now-now.result drew.drawn c.in-Ok.commands _ (rw c.in-Ok.is at (drew.says bytes seen)) c.answered.ensures.ok
 
 -- the refusal is written
 pub returns-in-Err-clause-whole : goal.returns-in-Err-clause-whole
@@ -44,7 +52,8 @@ returns-in-Err-clause-front g c short bytes seen =
 -- no fault was counted
 pub returns-in-Ok-clause-kept : goal.returns-in-Ok-clause-kept
 returns-in-Ok-clause-kept g c whole =
-    let same = c.answered.ensures.kept (answered_whole _ whole c.answered.ensures.statuses) in
+    let same = answered_whole _ (λ status. (g.S.Source.faults c.answered.new.source ≡ g.S.Source.faults c.first_commands.new.source)
+    × (g.K.Sink.faults c.answered.new.sink ≡ g.K.Sink.faults c.first_commands.new.sink)) _ c.answered.ensures.err c.answered.ensures.kept whole in
     (same.0 ∙ c.in-Ok.ensures.kept, same.1 ∙ ap g.K.Sink.faults c.in-Ok.ensures.unwritten)
 
 pub returns-in-Err-clause-kept : goal.returns-in-Err-clause-kept
