@@ -1,4 +1,4 @@
-//! The program `kong_node`: hands its words and the standard streams to `run`.
+//! The program `kong_node`: hands its words and the standard streams to `run_to_end`.
 #![tactic(auto)]
 
 mod input;
@@ -8,7 +8,7 @@ mod words;
 use crate::input::Input;
 use crate::output::Output;
 use crate::words::{Words, words_of};
-use kg_lone::run;
+use kg_lone::{End, exit_status, run_to_end};
 use kg_outside::{CountIds, StillClock};
 use kg_text::{List, Text};
 use std::io::{self, BufReader};
@@ -25,9 +25,6 @@ const WRITE_FAULT: u8 = 5;
 
 // The status of a run without memory.
 const OUT_OF_MEMORY: u8 = 6;
-
-// The status of a run whose last message was refused or cut.
-const BROKEN: u8 = 7;
 
 // How many bytes are asked of standard input at once.
 const PIECE: usize = 65_536;
@@ -54,40 +51,70 @@ refused (its reply is a 400) or cut; 4 a fault of standard input; 5 a fault of s
 
 const VERSION: &str = "kong_node 0.1.0\n";
 
-fn main(rt: HostRuntime) -> ExitCode {
-    let status = status(&rt);
-    if let Some(reason) = reason_of(status) {
-        // without standard error there is nobody to tell
-        let _ = rt.eprintln(reason);
-    }
-    ExitCode::from(status)
+/// What the program came to.
+#[derive(Clone, Copy)]
+enum Outcome {
+    /// The requests of a run were answered up to this end.
+    Answered(End),
+    /// This exit status, with nothing more to say of it.
+    Exit(u8),
 }
 
-// Why the program ends with this status, where standard output doesn't tell.
+fn main(rt: HostRuntime) -> ExitCode {
+    let outcome = run_words(&rt);
+    // without standard error there is nobody to tell
+    let _ = tell_reason(&rt, outcome);
+    ExitCode::from(status_of(outcome))
+}
+
+fn status_of(outcome: Outcome) -> u8 {
+    match outcome {
+        Outcome::Answered(end) => exit_status(end),
+        Outcome::Exit(status) => status,
+    }
+}
+
+// Tells on standard error why the program ends so, where standard output doesn't.
+fn tell_reason(rt: &HostRuntime, outcome: Outcome) -> io::Result<()> {
+    match outcome {
+        Outcome::Answered(End::Bad { at }) => {
+            eprintln!(rt; "kong_node: the message at byte {at} behind the first line was refused")
+        }
+        Outcome::Answered(End::Cut { have }) => {
+            eprintln!(rt; "kong_node: the last message was cut off behind {have} bytes")
+        }
+        Outcome::Answered(_) => Ok(()),
+        Outcome::Exit(status) => match reason_of(status) {
+            Some(reason) => rt.eprintln(reason),
+            None => Ok(()),
+        },
+    }
+}
+
+// Why the program ends with this status.
 fn reason_of(status: u8) -> Option<&'static str> {
     match status {
         OTHER_WORDS => Some(USAGE),
         READ_FAULT => Some("kong_node: standard input failed"),
         WRITE_FAULT => Some("kong_node: standard output failed"),
         OUT_OF_MEMORY => Some("kong_node: no memory, or a pattern too large to build"),
-        BROKEN => Some("kong_node: the last message was refused or cut off"),
         _ => None,
     }
 }
 
 // Runs the command that the program's words name.
-fn status(rt: &HostRuntime) -> u8 {
+fn run_words(rt: &HostRuntime) -> Outcome {
     match words_of(rt) {
         Words::These(words) => answer(rt, &words),
-        Words::NotText => OTHER_WORDS,
-        Words::NoMemory => OUT_OF_MEMORY,
+        Words::NotText => Outcome::Exit(OTHER_WORDS),
+        Words::NoMemory => Outcome::Exit(OUT_OF_MEMORY),
     }
 }
 
-fn answer(rt: &HostRuntime, words: &List<Text>) -> u8 {
+fn answer(rt: &HostRuntime, words: &List<Text>) -> Outcome {
     match words.as_slice() {
-        [word] if word.as_str() == "--help" => show(rt, HELP),
-        [word] if word.as_str() == "--version" => show(rt, VERSION),
+        [word] if word.as_str() == "--help" => Outcome::Exit(show(rt, HELP)),
+        [word] if word.as_str() == "--version" => Outcome::Exit(show(rt, VERSION)),
         _ => command(rt, words),
     }
 }
@@ -100,18 +127,22 @@ fn show(rt: &HostRuntime, text: &str) -> u8 {
     }
 }
 
-fn command(rt: &HostRuntime, words: &List<Text>) -> u8 {
+fn command(rt: &HostRuntime, words: &List<Text>) -> Outcome {
     let Ok(reader) = BufReader::with_capacity(rt.alloc(), PIECE, rt.stdin()) else {
-        return OUT_OF_MEMORY;
+        return Outcome::Exit(OUT_OF_MEMORY);
     };
     let mut source = Input::new(reader);
     let mut sink = Output::new(io::writer(rt));
-    run(
+    let end = run_to_end(
         rt.alloc(),
         words,
         &mut source,
         &mut sink,
         &mut StillClock(0),
         &mut CountIds::new(),
-    )
+    );
+    match end {
+        Ok(end) => Outcome::Answered(end),
+        Err(status) => Outcome::Exit(status),
+    }
 }
