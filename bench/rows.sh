@@ -1,42 +1,99 @@
 #!/usr/bin/env bash
-# Measures how `kong_node dry` reads declarations of 1,000, 10,000 and 100,000 rows of a kind.
-# usage: bench/declare.sh [ROWS ..]
-# For each number N it declares N consumers, each with a nested key-auth credential, and prints the
-# bytes of the line, the median wall time of three runs and the greatest resident memory of one.
+# Measures what rows cost at 1,000, 10,000 and 100,000 of a kind: whole declarations, read by `kong_node dry`, and single
+# changes, made by the test program row_cases at the rows of such a declaration.
+# usage: bench/rows.sh [ROWS ..]
+# For each number N it prints
+# - of N consumers with a key each, and of N services with a plugin each: the bytes of the line, the median processor time
+#   of three runs and the greatest resident memory of one;
+# - of each change: the processor time of one, as the median of three runs with N of them (at most 10,000) without that
+#   of the rows alone. A change that looks at all rows of a kind takes a hundred times as long at a hundred times the rows.
+# Both programs are built first where they aren't there. It needs python3.
 set -eu
 root="$(cd "$(dirname "${BASH_SOURCE[0]}")/.." && pwd)"
-program="$root/crates/kong_node/out/kong_node"
 "$root/bin/kong_node" --version > /dev/null
-folder="$(mktemp -d)"
-trap 'rm -rf "$folder"' EXIT
+(cd "$root/crates/row_cases" && rt run row_cases) > /dev/null < /dev/null
 [ $# -gt 0 ] || set -- 1000 10000 100000
+exec python3 - "$root/crates" "$@" <<'PYTHON'
+import json
+import os
+import subprocess
+import sys
+import tempfile
 
-write_declaration() {
-    python3 - "$1" > "$folder/declaration" <<'PYTHON'
-import json, sys
-consumers = [{"username": f"c{i}", "keyauth_credentials": [{"key": f"k{i}"}]} for i in range(int(sys.argv[1]))]
-print(json.dumps({"_format_version": "3.0", "consumers": consumers}, separators=(",", ":")))
+CRATES, NUMBERS = sys.argv[1], [int(word) for word in sys.argv[2:]]
+DRY = [f"{CRATES}/kong_node/out/kong_node", "dry"]
+CASES = [f"{CRATES}/row_cases/out/row_cases"]
+MOST_CHANGES = 10_000
+
+
+def consumers(rows):
+    return {"consumers": [{"username": f"c{i}", "keyauth_credentials": [{"key": f"k{i}"}]} for i in range(rows)]}
+
+
+def services(rows):
+    return {
+        "services": [
+            {"name": f"s{i}", "host": "h", "plugins": [{"name": "request-termination"}]} for i in range(rows)
+        ]
+    }
+
+
+def declaration(lists):
+    return json.dumps({"_format_version": "3.0", **lists}, separators=(",", ":"))
+
+
+# what is changed, at which rows, and the line of the i-th change
+CHANGES = [
+    ("insert a consumer", consumers, lambda i: f'POST consumers {{"username":"n{i}"}}'),
+    ("insert a key", consumers, lambda i: f'POST consumers/c{i}/key-auth {{"key":"n{i}"}}'),
+    ("update a consumer by PATCH", consumers, lambda i: f'PATCH consumers/c{i} {{"custom_id":"v{i}"}}'),
+    ("update a service by PUT", services, lambda i: f'PUT services/s{i} {{"name":"s{i}","host":"i"}}'),
+    ("delete a key", consumers, lambda i: f"DELETE key-auth/k{i}"),
+    ("delete a consumer with its key", consumers, lambda i: f"DELETE consumers/c{i}"),
+    ("delete a service with its plugin", services, lambda i: f"DELETE services/s{i}"),
+    ("insert a plugin", services, lambda i: f'POST plugins {{"name":"cors","service":"s{i}"}}'),
+    ("refuse a plugin whose name its service has", services,
+     lambda i: f'POST plugins {{"name":"request-termination","service":"s{i}"}}'),
+]
+
+
+def once(command, text, statuses):
+    """The processor time of a run in microseconds and its greatest resident memory in KiB."""
+    with tempfile.TemporaryFile() as given:
+        given.write(text.encode())
+        given.seek(0)
+        run = subprocess.Popen(command, stdin=given, stdout=subprocess.DEVNULL, stderr=subprocess.DEVNULL)
+        _, status, used = os.wait4(run.pid, 0)
+    if os.waitstatus_to_exitcode(status) not in statuses:
+        sys.exit(f"{command[0]} ended with {os.waitstatus_to_exitcode(status)}")
+    return round((used.ru_utime + used.ru_stime) * 1_000_000), used.ru_maxrss
+
+
+def median(command, text, statuses):
+    runs = [once(command, text, statuses) for _ in range(3)]
+    return sorted(time for time, _ in runs)[1], max(memory for _, memory in runs)
+
+
+def whole(rows):
+    # a declaration with plugins is judged in full, and then refused since they aren't run yet
+    for name, lists, status in ("consumers with a key", consumers, 0), ("services with a plugin", services, 3):
+        line = declaration(lists(rows)) + "\n"
+        time, memory = median(DRY, line, {status})
+        print(f"{rows} {name} each, {len(line)} bytes: {time} microseconds, {memory} KiB", flush=True)
+
+
+def single(rows):
+    count = min(rows, MOST_CHANGES)
+    alone = {}
+    for name, lists, line in CHANGES:
+        text = f"limit {2 * rows}\ndeclare {declaration(lists(rows))}\n"
+        if lists not in alone:
+            alone[lists] = median(CASES, text, {0})[0]
+        time = median(CASES, text + "".join(f"{line(i)}\n" for i in range(count)), {0})[0]
+        print(f"{rows} rows of each kind, {name}: {(time - alone[lists]) / count:.1f} microseconds", flush=True)
+
+
+for rows in NUMBERS:
+    whole(rows)
+    single(rows)
 PYTHON
-}
-
-# prints the wall time in microseconds and the greatest resident memory in kibibytes
-run_once() {
-    python3 - "$program" "$folder/declaration" <<'PYTHON'
-import resource, subprocess, sys, time
-began = time.monotonic()
-with open(sys.argv[2], "rb") as line:
-    status = subprocess.run([sys.argv[1], "dry"], stdin=line, stdout=subprocess.DEVNULL).returncode
-took = int((time.monotonic() - began) * 1_000_000)
-if status != 0:
-    sys.exit(f"the declaration was not accepted: status {status}")
-print(took, resource.getrusage(resource.RUSAGE_CHILDREN).ru_maxrss)
-PYTHON
-}
-
-for rows in "$@"; do
-    write_declaration "$rows"
-    runs="$(run_once; run_once; run_once)"
-    median=$(printf '%s\n' "$runs" | cut -d' ' -f1 | sort -n | sed -n 2p)
-    memory=$(printf '%s\n' "$runs" | cut -d' ' -f2 | sort -n | tail -1)
-    echo "rows $rows of each of two kinds, $(wc -c < "$folder/declaration") bytes: median of three runs $median microseconds, $memory KiB"
-done
