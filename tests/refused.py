@@ -12,6 +12,8 @@ from pathlib import Path
 
 ROOT = Path(__file__).resolve().parent.parent
 PROGRAM = ROOT / "crates/kong_node/out/kong_node"
+# how long a row may take
+SECONDS = 300
 
 SERVICE = '"services":[{"name":"s","host":"h","routes":[{"name":"r","paths":["/"]}]}]'
 CONSUMER = '"consumers":[{"username":"c"}]'
@@ -26,9 +28,10 @@ BEFORE = {
     "plugins": [SERVICE, CONSUMER],
 }
 
-
-# what comes before a refusal's fields, by its code
+# the message of a refusal that has fields, by its code
 MESSAGES = {2: "schema violation", 4: "foreign key violation", 5: "unique constraint violation"}
+# the message of one that has none, by the word for it in the table
+PLAIN = {"full": "Too many rows of this kind", "unread": "Cannot parse JSON body", "too long": "Bad line"}
 
 
 def cases(text):
@@ -57,21 +60,29 @@ def wanted(name, told):
         return 6, ""
     if told == "accepted":
         return (3, 'line 1 refused: {"message":"Not built yet"}\n') if name == "plugins" else (0, "")
+    if told in PLAIN:
+        return 3, f'line 1 refused: {{"message":"{PLAIN[told]}"}}\n'
     code, fields = (int(told[0]), told[2:]) if told[0].isdigit() else (2, told)
     message = MESSAGES[code]
     return 3, f'line 1 refused: {{"code":{code},"fields":{fields},"message":"{message}","name":"{message}"}}\n'
 
 
 def had(name, rows):
+    """The same as the program answers, or None where it doesn't in time."""
     given = declaration(name, rows).encode()
-    ran = subprocess.run(
-        [PROGRAM, "dry"], input=given, stdout=subprocess.PIPE, stderr=subprocess.DEVNULL, timeout=60
-    )
+    try:
+        ran = subprocess.run(
+            [PROGRAM, "dry"], input=given, stdout=subprocess.PIPE, stderr=subprocess.DEVNULL, timeout=SECONDS
+        )
+    except subprocess.TimeoutExpired:
+        return None
     return ran.returncode, ran.stdout.decode()
 
 
 def told_of(answer):
     """A status and what is printed, on one line."""
+    if answer is None:
+        return f"no answer in {SECONDS} seconds"
     status, printed = answer
     return f"status {status}, {printed.rstrip()}" if printed else f"status {status}, nothing printed"
 
