@@ -128,7 +128,7 @@ impl<T: Named> NamedTable<T> {
         let alias = copied(alloc, row.alias())?;
         self.names.reserve()?;
         self.aliases.reserve()?;
-        self.table.ids_differ();
+        self.table.ids_differ(); // for the proof: one row alone is replaced
         let Some(old) = self.table.replace(row)? else {
             return Ok(());
         };

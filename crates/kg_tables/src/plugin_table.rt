@@ -94,7 +94,7 @@ impl PluginTable {
         let id = plugin.id;
         let key = key_of(&plugin);
         self.keys.reserve()?;
-        self.table.ids_differ();
+        self.table.ids_differ(); // for the proof: one row alone is replaced
         let Some(old) = self.table.replace(plugin)? else {
             return Ok(());
         };

@@ -74,11 +74,11 @@ impl<T: Row> RowTable<T> {
         self.rows.len()
     }
 
-    /// No two rows have the same id.
+    /// No two rows have the same id: a law, for proofs.
     pub fn ids_differ(&self)
         ensures { IsDistinct nat_eq (map T.number self.now) }
     {
-        let _len = self.rows.len();
+        let _len = self.rows.len(); // read for the proof alone
     }
 
     /// The row with this id, which is the only one.
@@ -218,7 +218,7 @@ impl<T: Row> RowTable<T> {
         ensures { self.new ≡ filter (λ row. not (refers kind id (T.references row))) self.old }
     {
         while let Some(own) = self.first_id_of(kind, id) {
-            drop(self.remove(own));
+            drop(self.remove(own)); // let go by name: a short proof
         }
     }
 
