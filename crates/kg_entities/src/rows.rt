@@ -268,6 +268,7 @@ impl Rows {
             Entity::KeyCred(row) => self.key_creds.replace(alloc, row.try_clone(alloc)?),
             Entity::BasicCred(row) => self.basic_creds.replace(alloc, row.try_clone(alloc)?),
             Entity::Acl(row) => {
+                // let go by name: a short proof
                 drop(self.acls.replace(row.try_clone(alloc)?)?);
                 Ok(())
             }
