@@ -126,7 +126,8 @@ fn service_field(name: &str) -> Field
     }
 }
 
-// Tags, timeouts and certificates, which a service has no use for.
+// Tags, timeouts and certificates, which a service has no use for. A function of its own, since a match over
+// many texts takes the prover long.
 fn other_service_field(name: &str) -> Field
     ensures field { result ≡ field_among other_service_fields name.now }
     ensures depth { depth_of result ≡ 0 }
@@ -165,7 +166,7 @@ fn route_field(name: &str) -> Field
     }
 }
 
-// How paths are joined, what other protocols ask for, tags and buffers.
+// How paths are joined, what other protocols ask for, tags and buffers. Apart as those of a service are.
 fn other_route_field(name: &str) -> Field
     ensures field { result ≡ field_among other_route_fields name.now }
     ensures depth { depth_of result ≡ 0 }
