@@ -62,6 +62,7 @@ pub fn stored(alloc: Global, text_kind: TextKind, text: &str) -> Result<Text, No
             Some(id) => id.to_text(alloc),
             None => Text::from_str(alloc, text),
         },
+        // each kind by itself, as the proof takes them
         TextKind::Id => Text::from_str(alloc, text),
         TextKind::Name => Text::from_str(alloc, text),
         TextKind::FreeText => Text::from_str(alloc, text),
