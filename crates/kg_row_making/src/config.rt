@@ -54,6 +54,7 @@ fn set_cors(alloc: Global, config: &Value, place: &mut Cors) -> Result<(), NoMem
     Ok(())
 }
 
+// Apart from the other settings: a short proof.
 fn set_cors_lists(alloc: Global, config: &Value, place: &mut Cors) -> Result<(), NoMemory>
     ensures { OnOk result (place.new ≡ cors_lists_over (view config.now) place.old) }
 {
@@ -288,6 +289,7 @@ fn set_termination(alloc: Global, config: &Value, place: &mut Termination) -> Re
     set_reply(alloc, config, place)
 }
 
+// Apart from the status: a short proof.
 fn set_reply(alloc: Global, config: &Value, place: &mut Termination) -> Result<(), NoMemory>
     ensures { OnOk result (place.new ≡ reply_over (view config.now) place.old) }
 {

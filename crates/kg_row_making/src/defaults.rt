@@ -62,6 +62,7 @@ fn default_cors(alloc: Global) -> Result<Cors, NoMemory>
     ensures { IfOk result (λ config. config ≡ default_cors) }
 {
     let mut methods = List::new(alloc);
+    // in two calls: a short proof
     add_texts(
         alloc,
         &mut methods,
