@@ -63,6 +63,7 @@ pub fn finish(
     ensures violation { IfErr result (λ e. Tells e (violations_between form.now.kind (view form.now.body) (base_of base.entry) links.now None)) }
     ensures valid_row { IsValidBase form.now.kind (base_of base.entry) → IfOk result IsValidRow }
 {
+    // each base is made again, since the contract speaks of the one that was handed in: a short proof
     match base {
         Base::New { id, now } => finish_under(alloc, form, &Base::New { id, now }, links, None),
         Base::Again {
@@ -102,6 +103,7 @@ pub fn finish_under(
     match finish_row(alloc, form, base, links, contradicted, &mut row) {
         Ok(()) => Ok(row),
         Err(error) => {
+            // let go by name: a short proof
             drop(row);
             Err(error)
         }
@@ -144,6 +146,7 @@ fn judge_row(
     ensures violation { IfErr result (λ e. Tells e (violations_between form.now.kind (view form.now.body) (base_of base.now) links.now contradicted)) }
     ensures valid_row { IsValidBase form.now.kind (base_of base.now) → OnOk result (IsValidRow row.now) }
 {
+    // laws, called for the proof
     finished_rows_are_valid();
     base_has_id(base);
     links_are_ids(links);

@@ -40,7 +40,7 @@ fn is_id(id: Option<Id>)
 {
     match id {
         Some(id) => {
-            let _number = id.number();
+            let _number = id.number(); // its clause says that it is an id's
         }
         None => {}
     }
