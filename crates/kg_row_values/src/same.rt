@@ -19,6 +19,7 @@ pub fn is_same_service(a: &Service, b: &Service) -> bool
 pub fn is_same_route(a: &Route, b: &Route) -> bool
     ensures { IsTrue result ↔ (a.now ≡ b.now) }
 {
+    // in three parts, as the plugins below by their configs: a short proof
     has_same_names(a, b) && has_same_lists(a, b) && has_same_numbers(a, b)
 }
 
@@ -47,6 +48,7 @@ fn has_same_numbers(a: &Route, b: &Route) -> bool
         && a.updated_at == b.updated_at
 }
 
+// `==` of one type, under a contract for the proofs; so are the two below.
 fn is_same_text(a: &Option<Text>, b: &Option<Text>) -> bool
     ensures { IsTrue result ↔ (a.now ≡ b.now) }
 {
