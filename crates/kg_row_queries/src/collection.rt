@@ -56,7 +56,7 @@ pub fn selected_in<'r>(
     ensures row { option_map row_at result ≡ selected kind select.now (rows_in collection.now rows.now) }
     ensures valid { AreValidRows rows.now → IfSome result (λ row. IsValidRow (row_at row)) }
 {
-    among(rows, kind, collection, select)
+    among(rows, kind, collection, select) // apart: that the row is valid is proved of any such row
 }
 
 fn among<'r>(

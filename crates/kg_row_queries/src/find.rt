@@ -64,6 +64,7 @@ fn key_cred_of_word<'r>(rows: &'r Rows, text: &Text) -> Option<&'r KeyCred>
     rows.cred_with_key(text)
 }
 
+// A function for each kind, since the proofs need its contract with the field's own name.
 fn key_cred_with_id(rows: &Rows, id: Id) -> Option<&KeyCred>
     ensures { option_copied result ≡ find (λ row. row.id == id) rows.now.key_creds }
 {

@@ -37,6 +37,7 @@ pub fn found(
 {
     match collection_of(rows, parent) {
         Some(collection) => match selected_in(rows, kind, &collection, select) {
+            // no `?` beside a copied row: a short proof
             Some(row) => match row.copy(alloc) {
                 Ok(row) => Ok(Some(row)),
                 Err(NoMemory) => Err(NoMemory),
@@ -60,6 +61,7 @@ pub fn page_of(
     ensures { IfOk result (λ page. page ≡ page_of kind parent.now offset size rows.now) }
 {
     match collection_of(rows, parent) {
+        // no `?` beside a page: a short proof
         Some(collection) => match page_in(alloc, rows, kind, &collection, offset, size) {
             Ok(page) => Ok(Some(page)),
             Err(NoMemory) => Err(NoMemory),
@@ -111,7 +113,7 @@ fn rows_of(
     match put_rows(alloc, rows, kind, collection, ids, &mut shown) {
         Ok(()) => Ok(shown),
         Err(NoMemory) => {
-            drop(shown);
+            drop(shown); // let go by name: a short proof
             Err(NoMemory)
         }
     }
@@ -144,6 +146,7 @@ fn put_row(
     ensures { OnOk result (shown.new ≡ shown.old ++ option_to_list (row_with_id kind id (rows_in collection.now rows.now))) }
 {
     match row_in(rows, kind, collection, id) {
+        // no `?` beside a copied row: a short proof
         Some(row) => match row.copy(alloc) {
             Ok(row) => shown.push(row),
             Err(NoMemory) => Err(NoMemory),
