@@ -35,7 +35,7 @@ pub fn decide(alloc: Global, rows: &Rows, draft: &Draft, limit: u32) -> Result<C
     ensures allowed { IfOk result (λ command. IsTrue (is_allowed rows.now command limit)) }
     ensures valid { AreValidRows rows.now → IfOk result IsValidCommand }
 {
-    decided(alloc, rows, draft, limit)
+    decided(alloc, rows, draft, limit) // apart: that it is allowed is proved of any such decision
 }
 
 fn decided(alloc: Global, rows: &Rows, draft: &Draft, limit: u32) -> Result<Command, DecideError>
@@ -146,7 +146,7 @@ fn changed(
     let row = old.copy(alloc)?;
     let base = Base::Old { row: &row, now };
     let answer = replaced(alloc, rows, form, &base, above, old);
-    drop(row);
+    drop(row); // let go by name: a short proof
     answer
 }
 

@@ -43,7 +43,7 @@ pub fn inserted(
             if rows.count(form.kind()) < limit as usize {
                 return Ok(Command::Insert(row));
             }
-            drop(row);
+            drop(row); // let go by name: a short proof
             Err(DecideError::Refused(Refusal::Full))
         }
         Err(e) => Err(e),
@@ -63,6 +63,7 @@ pub fn replaced(
     ensures decided { Decides result (replaced rows.now form.now.kind (view form.now.body) (base_of base.now) above.now (row_at present.entry)) }
     ensures valid { IsValidBase form.now.kind (base_of base.now) → IfOk result IsValidCommand }
 {
+    // no `?` beside a made row: a short proof
     match proposed(alloc, rows, form, base, above, Some(present)) {
         Ok(row) => Ok(Command::Update(row)),
         Err(e) => Err(e),
@@ -93,7 +94,7 @@ fn proposed(
         Ok(row) => match fit(alloc, rows, above, &targets, &row, replaced) {
             Ok(()) => Ok(row),
             Err(e) => {
-                drop(row);
+                drop(row); // let go by name: a short proof
                 Err(e)
             }
         },
