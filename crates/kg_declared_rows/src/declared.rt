@@ -66,6 +66,7 @@ pub fn rows_of(alloc: Global, declaration: Map<String, Value>) -> Result<Vec<Dec
     let mut lists = Lists::new(alloc);
     let mut rows = Vec::new(alloc);
     let gathered = gather(alloc, &mut declaration, &mut lists, &mut rows);
+    // let go by name: a short proof
     drop(declaration);
     drop(lists);
     match gathered {

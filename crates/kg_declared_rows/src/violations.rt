@@ -129,7 +129,7 @@ fn list_rule(value: &Value) -> Option<Rule>
 fn lists_objects(items: &[Value]) -> bool
     ensures { result ≡ is_some (each_object (items_view items.now)) }
 {
-    are_objects(items)
+    are_objects(items) // apart: the proof has to look at each item
 }
 
 fn are_objects(items: &[Value]) -> bool
