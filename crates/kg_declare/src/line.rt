@@ -42,6 +42,7 @@ pub fn declare<I: Ids>(
     ensures outcome { Declares I.draws ids.old ids.new result (outcome line.now now limit) }
     ensures commands { IfOk result (AreInsertions limit) }
 {
+    // here and below no `?` beside what is owned: a short proof
     let rows = match prepared(alloc, line) {
         Ok(rows) => rows,
         Err(e) => return Err(e),
@@ -50,7 +51,7 @@ pub fn declare<I: Ids>(
     match insert_rows(alloc, rows, &mut made, ids, now, limit) {
         Ok(()) => Ok(commands_of(made, limit)),
         Err(e) => {
-            drop(made);
+            drop(made); // let go by name: a short proof
             Err(e)
         }
     }
@@ -61,10 +62,11 @@ fn commands_of(made: Made, limit: u32) -> List<Command>
     ensures commands { result ≡ made.commands }
     ensures insertions { IsConsistent limit made → AreInsertions limit result }
 {
+    // The law and the limit are for the proof alone.
     allowed_commands_make_valid_rows();
     let _limit = limit;
     let Made { rows, commands } = made;
-    drop(rows);
+    drop(rows); // let go by name: a short proof
     commands
 }
 

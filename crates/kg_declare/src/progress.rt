@@ -58,6 +58,7 @@ pub fn insert_rows<I: Ids>(
     ensures consistent { IsConsistent limit made.old → OnOk result (IsConsistent limit made.new) }
 {
     for row in rows {
+        // no `?` beside what is owned: a short proof
         match insert_row(alloc, row, made, ids, now, limit) {
             Ok(()) => {}
             Err(e) => return Err(e),
@@ -91,7 +92,7 @@ fn insert_row<I: Ids>(
                 now,
             };
             let inserted = insert(alloc, &draft, made, limit);
-            drop(draft);
+            drop(draft); // let go by name: a short proof
             inserted
         }
         Err(e) => Err(e),
@@ -105,7 +106,7 @@ fn insert(alloc: Global, draft: &Draft, made: &mut Made, limit: u32) -> Result<(
     ensures leaves { (before drawn : ℕ) → Leaves result (decided (progress_at made.old before) drawn (decision made.old.rows draft.now limit)) made.new drawn }
     ensures consistent { IsConsistent limit made.old → OnOk result (IsConsistent limit made.new) }
 {
-    allowed_commands_make_valid_rows();
+    allowed_commands_make_valid_rows(); // a law, called for the proof
     match decided(alloc, &made.rows, draft, limit) {
         Ok(command) => {
             add(alloc, made, command)?;
@@ -134,7 +135,7 @@ fn refused(alloc: Global, e: DecideError) -> DeclareError
     match e {
         DecideError::Refused(refusal) => {
             let response = refusal_response(alloc, &refusal);
-            drop(refusal);
+            drop(refusal); // let go by name: a short proof
             match response {
                 Ok(response) => DeclareError::Refused(response),
                 Err(NoMemory) => DeclareError::NoMemory,
@@ -153,7 +154,7 @@ fn add(alloc: Global, made: &mut Made, command: Command) -> Result<(), NoMemory>
     match add_row(alloc, &mut made.rows, &command) {
         Ok(()) => made.commands.push(command),
         Err(e) => {
-            drop(command);
+            drop(command); // let go by name: a short proof
             Err(e)
         }
     }
@@ -196,6 +197,7 @@ fn form_of(alloc: Global, row: Declared) -> Result<Form, DeclareError>
     } = row;
     let body = Value::from(members);
     let form = judged(alloc, kind, &body, wrong.as_slice());
+    // let go by name: a short proof
     drop(body);
     drop(wrong);
     form
