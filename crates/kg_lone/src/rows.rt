@@ -47,7 +47,7 @@ fn add_inserted(
     match command {
         Command::Insert(row) => add_row(row, services, routes),
         Command::Update(row) => {
-            drop(row);
+            drop(row); // let go by name: a short proof
             Ok(())
         }
         Command::Delete { .. } => Ok(()),
@@ -62,6 +62,7 @@ fn add_row(
     ensures services { OnOk result (services.new ≡ with_one (as_service row) services.old) }
     ensures routes { OnOk result (routes.new ≡ with_one (as_route row) routes.old) }
 {
+    // what isn't kept is let go by name: a short proof
     match row {
         Entity::Service(service) => services.push(service),
         Entity::Route(route) => routes.push(route),
