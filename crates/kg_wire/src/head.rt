@@ -95,6 +95,7 @@ pub fn make_request(
             address,
         }),
         Err(error) => {
+            // let go by name: a short proof
             drop(method);
             drop(headers);
             drop(body);

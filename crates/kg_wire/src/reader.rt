@@ -152,6 +152,7 @@ impl Reader {
         result
     }
 
+    // As `next_request` where no error was told before, which is noted there, once for all ends.
     fn read<S: Source>(
         &mut self,
         alloc: Global,
@@ -193,7 +194,7 @@ impl Reader {
         match fill_message(source, &mut self.held, &start, self.at) {
             Ok(()) => Ok(self.take_held(alloc, start)?),
             Err(error) => {
-                drop(start);
+                drop(start); // let go by name, with no `?` beside it: a short proof
                 Err(error)
             }
         }
@@ -218,7 +219,7 @@ impl Reader {
         let body = match Bytes::from_slice(alloc, message.split_at(head_len).1) {
             Ok(body) => body,
             Err(_) => {
-                drop(head);
+                drop(head); // here and below: a short proof
                 return Err(NoMemory);
             }
         };
