@@ -80,6 +80,7 @@ fn put_route(
 ) -> Result<(), AllocError>
     ensures { OnOk result (members_view members.new.entries ≡ with_members (route_members route.now) (members_view members.old.entries)) }
 {
+    // in two parts: a short proof
     put_front_of_route(alloc, members, route)?;
     put_rest_of_route(alloc, members, route)
 }
