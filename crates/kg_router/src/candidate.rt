@@ -89,7 +89,7 @@ fn service_place(services: &[Service], places: &ServicePlaces, route: &Route) ->
     }
 }
 
-// Where the first service of this id stands.
+// Where the first service of this id stands: `get`, under the contract that the proof of the caller needs.
 fn place_of(services: &[Service], places: &ServicePlaces, id: Id) -> Option<usize>
     requires { ArePlaces services.now places.now }
     ensures value { result ≡ position (λ service. service.id == id) services.now }
