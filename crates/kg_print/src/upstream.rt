@@ -56,6 +56,7 @@ fn put_client_fields(out: &mut Bytes, request: &Request) -> Result<(), NoMemory>
     )
 }
 
+// The parts are handed in apart: a short proof.
 fn put_forwarded(
     out: &mut Bytes,
     headers: &Headers,
