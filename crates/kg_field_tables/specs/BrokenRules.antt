@@ -2,7 +2,7 @@
 use Rattle.std.specs.Prelude.{ℕ, ◌==◌, Bool, true, false, not, ◌&&◌, List, [], ◌∷◌, ◌++◌, Option, Some, None, option_and_then, codes, if◌then◌else◌}
 use Rattle.std.specs.Option.{option_map_or}
 use Rattle.std.specs.Str.{bytes_eq}
-use Rattle.serde_json.specs.Data.{Data, null, boolean, number, string, array, object, Members, no_members, member}
+use Rattle.serde_json.specs.Data.{Data, object, Members, no_members, member}
 use Rattle.serde_json.specs.Find.{as_bool, as_number, as_str, as_object, as_u64, get}
 use Rattle.kg_row_types.specs.PluginNames.{plugin_named}
 use Rattle.kg_row_types.specs.declared.entity.Kind.{Kind}
@@ -51,7 +51,7 @@ abbrev pub field_rule : Field → Data → Option Rule
 field_rule Unknown d = Some rule.Unknown
 field_rule Dropped d = None
 field_rule (Fixed constant) d = if is_set d && not (is_constant constant d) then Some rule.Fixed else None
-field_rule (Judged shape) d = judged shape d
+field_rule (Judged shape value) d = judged shape d
 field_rule (Inside table) d = object_rule d
 
 -- a rule that is broken at a path

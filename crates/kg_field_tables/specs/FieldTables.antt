@@ -1,16 +1,21 @@
 -- The fields of every object that a body can have, and what each of them takes (Kong Gateway manual,
--- Admin API and the pages of the plugins; the bounds are this project's own). `Judged` fields are read,
--- `Fixed` ones take one value alone, `Dropped` ones are ignored, and those `Inside` are objects with a
--- table of their own.
+-- Admin API and the pages of the plugins; the bounds are this project's own). `Judged` fields are read, and
+-- a new row has the value behind their shape where its body sets none. `Fixed` fields take one value alone,
+-- `Dropped` ones are ignored, and those `Inside` are objects with a table of their own.
 use Rattle.std.specs.Prelude.{ℕ, pos, neg_ℤ, true, false, List, [], ◌∷◌, Option, Some, None, unwrap_or, codes}
 use Rattle.std.specs.Map.{lookup}
 use Rattle.std.specs.Str.{bytes_eq}
+use Rattle.kg_row_types.specs.declared.config.LimitBy.TheVariants as limit
+use Rattle.kg_row_types.specs.declared.config.SizeUnit.TheVariants as unit
 use Rattle.kg_row_types.specs.declared.entity.Kind.{Kind}
 use Rattle.kg_row_types.specs.declared.entity.Kind.TheVariants as kind
 use Rattle.kg_row_types.specs.declared.plugin.PluginName.{PluginName}
 use Rattle.kg_row_types.specs.declared.plugin.PluginName.TheVariants as plugin
 use Rattle.kg_field_tables.specs.declared.constant.Constant.TheVariants.{Nothing, Bit, Number, Phrase}
 use Rattle.kg_field_tables.specs.declared.constant.Phrase.TheVariants as phrase
+use Rattle.kg_field_tables.specs.declared.default_value.DefaultValue.TheVariants as default
+use Rattle.kg_field_tables.specs.declared.default_value.DefaultValue.TheVariants.{Unset}
+use Rattle.kg_field_tables.specs.declared.default_value.TextList.TheVariants as texts
 use Rattle.kg_field_tables.specs.declared.reference.Mention.TheVariants as mention
 use Rattle.kg_field_tables.specs.declared.shape.Shape.TheVariants.{Text, Texts, OneOf, Protocols, Whole, Integer, Flag, Reference, Headers, Object}
 use Rattle.kg_field_tables.specs.declared.table.EditList.{EditList}
@@ -29,7 +34,7 @@ Fields = List (List ℕ × Field)
 
 -- a row's id, and its times, which the clock tells
 abbrev pub row_fields : Fields
-row_fields = (codes "id", Judged (Text text_kind.Id)) ∷ (codes "created_at", Dropped) ∷ (codes "updated_at", Dropped) ∷ []
+row_fields = (codes "id", Judged (Text text_kind.Id) Unset) ∷ (codes "created_at", Dropped) ∷ (codes "updated_at", Dropped) ∷ []
 
 -- tags, timeouts and certificates, which a service has no use for
 abbrev pub other_service_fields : Fields
@@ -46,14 +51,14 @@ other_service_fields =
 
 abbrev pub service_fields : Fields
 service_fields =
-    (codes "name", Judged (Text text_kind.Name))
+    (codes "name", Judged (Text text_kind.Name) Unset)
     ∷ (codes "protocol", Fixed (Phrase phrase.Http))
-    ∷ (codes "host", Judged (Text text_kind.Host))
-    ∷ (codes "port", Judged (Whole 1 65535))
-    ∷ (codes "path", Judged (Text text_kind.Path))
-    ∷ (codes "retries", Judged (Whole 0 32767))
-    ∷ (codes "enabled", Judged Flag)
-    ∷ (codes "url", Judged (Text text_kind.Url))
+    ∷ (codes "host", Judged (Text text_kind.Host) Unset)
+    ∷ (codes "port", Judged (Whole 1 65535) (default.Whole 80))
+    ∷ (codes "path", Judged (Text text_kind.Path) Unset)
+    ∷ (codes "retries", Judged (Whole 0 32767) (default.Whole 5))
+    ∷ (codes "enabled", Judged Flag (default.Flag true))
+    ∷ (codes "url", Judged (Text text_kind.Url) Unset)
     ∷ other_service_fields
 
 -- how paths are joined, what other protocols ask for, tags and buffers
@@ -71,60 +76,60 @@ other_route_fields =
 
 abbrev pub route_fields : Fields
 route_fields =
-    (codes "name", Judged (Text text_kind.Name))
-    ∷ (codes "service", Judged (Reference mention.Name))
-    ∷ (codes "protocols", Judged Protocols)
-    ∷ (codes "methods", Judged (Texts text_kind.Method))
-    ∷ (codes "hosts", Judged (Texts text_kind.RouteHost))
-    ∷ (codes "paths", Judged (Texts text_kind.RoutePath))
-    ∷ (codes "headers", Judged Headers)
-    ∷ (codes "regex_priority", Judged (Integer (neg_ℤ (pos 1000000)) (pos 1000000)))
-    ∷ (codes "strip_path", Judged Flag)
-    ∷ (codes "preserve_host", Judged Flag)
+    (codes "name", Judged (Text text_kind.Name) Unset)
+    ∷ (codes "service", Judged (Reference mention.Name) Unset)
+    ∷ (codes "protocols", Judged Protocols (default.Https true))
+    ∷ (codes "methods", Judged (Texts text_kind.Method) Unset)
+    ∷ (codes "hosts", Judged (Texts text_kind.RouteHost) Unset)
+    ∷ (codes "paths", Judged (Texts text_kind.RoutePath) Unset)
+    ∷ (codes "headers", Judged Headers Unset)
+    ∷ (codes "regex_priority", Judged (Integer (neg_ℤ (pos 1000000)) (pos 1000000)) (default.Integer (pos 0)))
+    ∷ (codes "strip_path", Judged Flag (default.Flag true))
+    ∷ (codes "preserve_host", Judged Flag (default.Flag false))
     ∷ other_route_fields
 
 abbrev pub consumer_fields : Fields
 consumer_fields =
-    (codes "username", Judged (Text text_kind.Username))
-    ∷ (codes "custom_id", Judged (Text text_kind.FreeText))
+    (codes "username", Judged (Text text_kind.Username) Unset)
+    ∷ (codes "custom_id", Judged (Text text_kind.FreeText) Unset)
     ∷ (codes "tags", Dropped)
     ∷ row_fields
 
 abbrev pub key_cred_fields : Fields
 key_cred_fields =
-    (codes "consumer", Judged (Reference mention.Username))
-    ∷ (codes "key", Judged (Text text_kind.FreeText))
+    (codes "consumer", Judged (Reference mention.Username) Unset)
+    ∷ (codes "key", Judged (Text text_kind.FreeText) Unset)
     ∷ (codes "ttl", Fixed Nothing)
     ∷ (codes "tags", Dropped)
     ∷ row_fields
 
 abbrev pub basic_cred_fields : Fields
 basic_cred_fields =
-    (codes "consumer", Judged (Reference mention.Username))
-    ∷ (codes "username", Judged (Text text_kind.FreeText))
-    ∷ (codes "password", Judged (Text text_kind.FreeText))
+    (codes "consumer", Judged (Reference mention.Username) Unset)
+    ∷ (codes "username", Judged (Text text_kind.FreeText) Unset)
+    ∷ (codes "password", Judged (Text text_kind.FreeText) Unset)
     ∷ (codes "tags", Dropped)
     ∷ row_fields
 
 abbrev pub acl_row_fields : Fields
 acl_row_fields =
-    (codes "consumer", Judged (Reference mention.Username))
-    ∷ (codes "group", Judged (Text text_kind.FreeText))
+    (codes "consumer", Judged (Reference mention.Username) Unset)
+    ∷ (codes "group", Judged (Text text_kind.FreeText) Unset)
     ∷ (codes "tags", Dropped)
     ∷ row_fields
 
 -- the config's fields hang on the plugin; where that isn't known, it is an object of any kind
 abbrev pub config_field : Option PluginName → Field
-config_field None = Judged Object
+config_field None = Judged Object Unset
 config_field (Some name) = Inside (table.Config name)
 
 abbrev pub plugin_fields : Option PluginName → Fields
 plugin_fields name =
-    (codes "name", Judged (OneOf choice.Plugin))
-    ∷ (codes "service", Judged (Reference mention.Name))
-    ∷ (codes "route", Judged (Reference mention.Name))
-    ∷ (codes "consumer", Judged (Reference mention.Username))
-    ∷ (codes "enabled", Judged Flag)
+    (codes "name", Judged (OneOf choice.Plugin) Unset)
+    ∷ (codes "service", Judged (Reference mention.Name) Unset)
+    ∷ (codes "route", Judged (Reference mention.Name) Unset)
+    ∷ (codes "consumer", Judged (Reference mention.Username) Unset)
+    ∷ (codes "enabled", Judged Flag (default.Flag true))
     ∷ (codes "config", config_field name)
     ∷ (codes "ordering", Fixed Nothing)
     ∷ (codes "protocols", Dropped)
@@ -136,23 +141,23 @@ plugin_fields name =
 
 abbrev pub cors_fields : Fields
 cors_fields =
-    (codes "origins", Judged (Texts text_kind.FreeText))
-    ∷ (codes "methods", Judged (Texts text_kind.Method))
-    ∷ (codes "headers", Judged (Texts text_kind.FreeText))
-    ∷ (codes "exposed_headers", Judged (Texts text_kind.FreeText))
-    ∷ (codes "credentials", Judged Flag)
-    ∷ (codes "max_age", Judged (Whole 0 1000000000))
-    ∷ (codes "preflight_continue", Judged Flag)
+    (codes "origins", Judged (Texts text_kind.FreeText) Unset)
+    ∷ (codes "methods", Judged (Texts text_kind.Method) (default.Texts texts.Methods))
+    ∷ (codes "headers", Judged (Texts text_kind.FreeText) Unset)
+    ∷ (codes "exposed_headers", Judged (Texts text_kind.FreeText) Unset)
+    ∷ (codes "credentials", Judged Flag (default.Flag false))
+    ∷ (codes "max_age", Judged (Whole 0 1000000000) Unset)
+    ∷ (codes "preflight_continue", Judged Flag (default.Flag false))
     ∷ (codes "private_network", Fixed (Bit false))
     ∷ []
 
 abbrev pub key_auth_fields : Fields
 key_auth_fields =
-    (codes "key_names", Judged (Texts text_kind.Token))
-    ∷ (codes "key_in_header", Judged Flag)
-    ∷ (codes "key_in_query", Judged Flag)
-    ∷ (codes "hide_credentials", Judged Flag)
-    ∷ (codes "anonymous", Judged (Text text_kind.Anonymous))
+    (codes "key_names", Judged (Texts text_kind.Token) (default.Texts texts.KeyNames))
+    ∷ (codes "key_in_header", Judged Flag (default.Flag true))
+    ∷ (codes "key_in_query", Judged Flag (default.Flag true))
+    ∷ (codes "hide_credentials", Judged Flag (default.Flag false))
+    ∷ (codes "anonymous", Judged (Text text_kind.Anonymous) Unset)
     ∷ (codes "key_in_body", Fixed (Bit false))
     ∷ (codes "run_on_preflight", Fixed (Bit true))
     ∷ (codes "realm", Fixed Nothing)
@@ -160,46 +165,46 @@ key_auth_fields =
 
 abbrev pub basic_auth_fields : Fields
 basic_auth_fields =
-    (codes "hide_credentials", Judged Flag)
-    ∷ (codes "anonymous", Judged (Text text_kind.Anonymous))
+    (codes "hide_credentials", Judged Flag (default.Flag false))
+    ∷ (codes "anonymous", Judged (Text text_kind.Anonymous) Unset)
     ∷ (codes "realm", Fixed (Phrase phrase.Service))
     ∷ []
 
 abbrev pub ip_restriction_fields : Fields
 ip_restriction_fields =
-    (codes "allow", Judged (Texts text_kind.AddressBlock))
-    ∷ (codes "deny", Judged (Texts text_kind.AddressBlock))
+    (codes "allow", Judged (Texts text_kind.AddressBlock) Unset)
+    ∷ (codes "deny", Judged (Texts text_kind.AddressBlock) Unset)
     ∷ (codes "status", Fixed Nothing)
     ∷ (codes "message", Fixed Nothing)
     ∷ []
 
 abbrev pub size_limit_fields : Fields
 size_limit_fields =
-    (codes "allowed_payload_size", Judged (Whole 1 1000000000))
-    ∷ (codes "size_unit", Judged (OneOf choice.SizeUnit))
+    (codes "allowed_payload_size", Judged (Whole 1 1000000000) (default.Whole 128))
+    ∷ (codes "size_unit", Judged (OneOf choice.SizeUnit) (default.SizeUnit unit.Megabytes))
     ∷ (codes "require_content_length", Fixed (Bit false))
     ∷ []
 
 abbrev pub acl_fields : Fields
 acl_fields =
-    (codes "allow", Judged (Texts text_kind.FreeText))
-    ∷ (codes "deny", Judged (Texts text_kind.FreeText))
-    ∷ (codes "hide_groups_header", Judged Flag)
+    (codes "allow", Judged (Texts text_kind.FreeText) Unset)
+    ∷ (codes "deny", Judged (Texts text_kind.FreeText) Unset)
+    ∷ (codes "hide_groups_header", Judged Flag (default.Flag false))
     ∷ (codes "always_use_authenticated_groups", Fixed (Bit false))
     ∷ (codes "include_consumer_groups", Fixed (Bit false))
     ∷ []
 
 abbrev pub rate_limiting_fields : Fields
 rate_limiting_fields =
-    (codes "second", Judged (Whole 1 1000000000))
-    ∷ (codes "minute", Judged (Whole 1 1000000000))
-    ∷ (codes "hour", Judged (Whole 1 1000000000))
-    ∷ (codes "day", Judged (Whole 1 1000000000))
+    (codes "second", Judged (Whole 1 1000000000) Unset)
+    ∷ (codes "minute", Judged (Whole 1 1000000000) Unset)
+    ∷ (codes "hour", Judged (Whole 1 1000000000) Unset)
+    ∷ (codes "day", Judged (Whole 1 1000000000) Unset)
     ∷ (codes "month", Fixed Nothing)
     ∷ (codes "year", Fixed Nothing)
-    ∷ (codes "limit_by", Judged (OneOf choice.LimitBy))
+    ∷ (codes "limit_by", Judged (OneOf choice.LimitBy) (default.LimitBy limit.Consumer))
     ∷ (codes "policy", Fixed (Phrase phrase.Local))
-    ∷ (codes "hide_client_headers", Judged Flag)
+    ∷ (codes "hide_client_headers", Judged Flag (default.Flag false))
     ∷ (codes "error_code", Fixed (Number 429))
     ∷ (codes "error_message", Fixed (Phrase phrase.LimitExceeded))
     ∷ (codes "fault_tolerant", Dropped)
@@ -226,10 +231,10 @@ response_transformer_fields =
 
 abbrev pub termination_fields : Fields
 termination_fields =
-    (codes "status_code", Judged (Whole 200 599))
-    ∷ (codes "message", Judged (Text text_kind.FreeText))
-    ∷ (codes "body", Judged (Text text_kind.LongText))
-    ∷ (codes "content_type", Judged (Text text_kind.FreeText))
+    (codes "status_code", Judged (Whole 200 599) (default.Whole 503))
+    ∷ (codes "message", Judged (Text text_kind.FreeText) Unset)
+    ∷ (codes "body", Judged (Text text_kind.LongText) Unset)
+    ∷ (codes "content_type", Judged (Text text_kind.FreeText) Unset)
     ∷ (codes "trigger", Fixed Nothing)
     ∷ (codes "echo", Fixed (Bit false))
     ∷ []
@@ -260,14 +265,14 @@ uri_field _ = []
 
 abbrev pub request_edit_fields : EditList → Fields
 request_edit_fields edits =
-    (codes "headers", Judged (Texts (header_text_kind edits)))
-    ∷ (codes "querystring", Judged (Texts text_kind.Edit))
+    (codes "headers", Judged (Texts (header_text_kind edits)) Unset)
+    ∷ (codes "querystring", Judged (Texts text_kind.Edit) Unset)
     ∷ (codes "body", Fixed Nothing)
     ∷ uri_field edits
 
 abbrev pub response_edit_fields : EditList → Fields
 response_edit_fields edits =
-    (codes "headers", Judged (Texts (header_text_kind edits)))
+    (codes "headers", Judged (Texts (header_text_kind edits)) Unset)
     ∷ (codes "json", Fixed Nothing)
     ∷ []
 

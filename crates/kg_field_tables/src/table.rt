@@ -7,6 +7,8 @@ ghost use Rattle.kg_field_tables.specs.FieldTables.{config_field, field_among, f
 ghost use Rattle.kg_field_tables.specs.Depths.{depth_of, levels};
 
 use crate::constant::{Constant, Phrase};
+use crate::default_value::DefaultValue;
+use crate::default_value::DefaultValue::Unset;
 use crate::reference::Mention;
 use crate::shape::Shape;
 use crate::table::config::{config_table_field, request_edits_field, response_edits_field};
@@ -52,7 +54,8 @@ pub enum Field {
     Dropped,
     /// One value alone.
     Fixed(Constant),
-    Judged(Shape),
+    /// What has this shape. A new row has this value where its body sets none.
+    Judged(Shape, DefaultValue),
     /// An object with a table of its own.
     Inside(Table),
 }
@@ -97,7 +100,7 @@ fn row_field(name: &str) -> Field
     ensures depth { depth_of result ≡ 0 }
 {
     match name {
-        "id" => Field::Judged(Shape::Text(TextKind::Id)),
+        "id" => Field::Judged(Shape::Text(TextKind::Id), Unset),
         "created_at" | "updated_at" => Field::Dropped,
         _ => Field::Unknown,
     }
@@ -108,20 +111,26 @@ fn service_field(name: &str) -> Field
     ensures depth { depth_of result ≡ 0 }
 {
     match name {
-        "name" => Field::Judged(Shape::Text(TextKind::Name)),
+        "name" => Field::Judged(Shape::Text(TextKind::Name), Unset),
         "protocol" => Field::Fixed(Constant::Phrase(Phrase::Http)),
-        "host" => Field::Judged(Shape::Text(TextKind::Host)),
-        "port" => Field::Judged(Shape::Whole {
-            low: 1,
-            high: 65_535,
-        }),
-        "path" => Field::Judged(Shape::Text(TextKind::Path)),
-        "retries" => Field::Judged(Shape::Whole {
-            low: 0,
-            high: 32_767,
-        }),
-        "enabled" => Field::Judged(Shape::Flag),
-        "url" => Field::Judged(Shape::Text(TextKind::Url)),
+        "host" => Field::Judged(Shape::Text(TextKind::Host), Unset),
+        "port" => Field::Judged(
+            Shape::Whole {
+                low: 1,
+                high: 65_535,
+            },
+            DefaultValue::Whole(80),
+        ),
+        "path" => Field::Judged(Shape::Text(TextKind::Path), Unset),
+        "retries" => Field::Judged(
+            Shape::Whole {
+                low: 0,
+                high: 32_767,
+            },
+            DefaultValue::Whole(5),
+        ),
+        "enabled" => Field::Judged(Shape::Flag, DefaultValue::Flag(true)),
+        "url" => Field::Judged(Shape::Text(TextKind::Url), Unset),
         _ => other_service_field(name),
     }
 }
@@ -150,18 +159,22 @@ fn route_field(name: &str) -> Field
     ensures depth { depth_of result ≡ 0 }
 {
     match name {
-        "name" => Field::Judged(Shape::Text(TextKind::Name)),
-        "service" => Field::Judged(Shape::Reference(Mention::Name)),
-        "protocols" => Field::Judged(Shape::Protocols),
-        "methods" => Field::Judged(Shape::Texts(TextKind::Method)),
-        "hosts" => Field::Judged(Shape::Texts(TextKind::RouteHost)),
-        "paths" => Field::Judged(Shape::Texts(TextKind::RoutePath)),
-        "headers" => Field::Judged(Shape::Headers),
-        "regex_priority" => Field::Judged(Shape::Integer {
-            low: -1_000_000,
-            high: 1_000_000,
-        }),
-        "strip_path" | "preserve_host" => Field::Judged(Shape::Flag),
+        "name" => Field::Judged(Shape::Text(TextKind::Name), Unset),
+        "service" => Field::Judged(Shape::Reference(Mention::Name), Unset),
+        "protocols" => Field::Judged(Shape::Protocols, DefaultValue::Https(true)),
+        "methods" => Field::Judged(Shape::Texts(TextKind::Method), Unset),
+        "hosts" => Field::Judged(Shape::Texts(TextKind::RouteHost), Unset),
+        "paths" => Field::Judged(Shape::Texts(TextKind::RoutePath), Unset),
+        "headers" => Field::Judged(Shape::Headers, Unset),
+        "regex_priority" => Field::Judged(
+            Shape::Integer {
+                low: -1_000_000,
+                high: 1_000_000,
+            },
+            DefaultValue::Integer(0),
+        ),
+        "strip_path" => Field::Judged(Shape::Flag, DefaultValue::Flag(true)),
+        "preserve_host" => Field::Judged(Shape::Flag, DefaultValue::Flag(false)),
         _ => other_route_field(name),
     }
 }
@@ -186,8 +199,8 @@ fn consumer_field(name: &str) -> Field
     ensures depth { depth_of result ≡ 0 }
 {
     match name {
-        "username" => Field::Judged(Shape::Text(TextKind::Username)),
-        "custom_id" => Field::Judged(Shape::Text(TextKind::FreeText)),
+        "username" => Field::Judged(Shape::Text(TextKind::Username), Unset),
+        "custom_id" => Field::Judged(Shape::Text(TextKind::FreeText), Unset),
         "tags" => Field::Dropped,
         _ => row_field(name),
     }
@@ -198,8 +211,8 @@ fn key_cred_field(name: &str) -> Field
     ensures depth { depth_of result ≡ 0 }
 {
     match name {
-        "consumer" => Field::Judged(Shape::Reference(Mention::Username)),
-        "key" => Field::Judged(Shape::Text(TextKind::FreeText)),
+        "consumer" => Field::Judged(Shape::Reference(Mention::Username), Unset),
+        "key" => Field::Judged(Shape::Text(TextKind::FreeText), Unset),
         "ttl" => Field::Fixed(Constant::Nothing),
         "tags" => Field::Dropped,
         _ => row_field(name),
@@ -211,8 +224,8 @@ fn basic_cred_field(name: &str) -> Field
     ensures depth { depth_of result ≡ 0 }
 {
     match name {
-        "consumer" => Field::Judged(Shape::Reference(Mention::Username)),
-        "username" | "password" => Field::Judged(Shape::Text(TextKind::FreeText)),
+        "consumer" => Field::Judged(Shape::Reference(Mention::Username), Unset),
+        "username" | "password" => Field::Judged(Shape::Text(TextKind::FreeText), Unset),
         "tags" => Field::Dropped,
         _ => row_field(name),
     }
@@ -223,8 +236,8 @@ fn acl_field(name: &str) -> Field
     ensures depth { depth_of result ≡ 0 }
 {
     match name {
-        "consumer" => Field::Judged(Shape::Reference(Mention::Username)),
-        "group" => Field::Judged(Shape::Text(TextKind::FreeText)),
+        "consumer" => Field::Judged(Shape::Reference(Mention::Username), Unset),
+        "group" => Field::Judged(Shape::Text(TextKind::FreeText), Unset),
         "tags" => Field::Dropped,
         _ => row_field(name),
     }
@@ -235,10 +248,10 @@ fn plugin_field(plugin: Option<PluginName>, name: &str) -> Field
     ensures depth { depth_of result ≤ 2 }
 {
     match name {
-        "name" => Field::Judged(Shape::OneOf(Choice::Plugin)),
-        "service" | "route" => Field::Judged(Shape::Reference(Mention::Name)),
-        "consumer" => Field::Judged(Shape::Reference(Mention::Username)),
-        "enabled" => Field::Judged(Shape::Flag),
+        "name" => Field::Judged(Shape::OneOf(Choice::Plugin), Unset),
+        "service" | "route" => Field::Judged(Shape::Reference(Mention::Name), Unset),
+        "consumer" => Field::Judged(Shape::Reference(Mention::Username), Unset),
+        "enabled" => Field::Judged(Shape::Flag, DefaultValue::Flag(true)),
         "config" => config_field(plugin),
         "ordering" => Field::Fixed(Constant::Nothing),
         "protocols" | "tags" | "instance_name" => Field::Dropped,
@@ -253,6 +266,6 @@ pub fn config_field(plugin: Option<PluginName>) -> Field
 {
     match plugin {
         Some(name) => Field::Inside(Table::Config(name)),
-        None => Field::Judged(Shape::Object),
+        None => Field::Judged(Shape::Object, Unset),
     }
 }

@@ -6,9 +6,12 @@ ghost use Rattle.kg_field_tables.specs.FieldTables.{field_of, header_text_kind};
 ghost use Rattle.kg_field_tables.specs.Depths.{depth_of};
 
 use crate::constant::{Constant, Phrase};
+use crate::default_value::DefaultValue::Unset;
+use crate::default_value::{DefaultValue, TextList};
 use crate::shape::Shape;
 use crate::table::{EditList, Field, Table};
 use kg_field_rules::text_kind::{Choice, TextKind};
+use kg_row_types::config::{LimitBy, SizeUnit};
 use kg_row_types::plugin::PluginName;
 
 // The most that counts, sizes and times can be.
@@ -38,12 +41,19 @@ fn cors_field(name: &str) -> Field
     ensures depth { depth_of result ≡ 0 }
 {
     match name {
-        "origins" | "headers" | "exposed_headers" => Field::Judged(Shape::Texts(
-            TextKind::FreeText,
-        )),
-        "methods" => Field::Judged(Shape::Texts(TextKind::Method)),
-        "credentials" | "preflight_continue" => Field::Judged(Shape::Flag),
-        "max_age" => Field::Judged(Shape::Whole { low: 0, high: MOST }),
+        "origins" | "headers" | "exposed_headers" => Field::Judged(
+            Shape::Texts(TextKind::FreeText),
+            Unset,
+        ),
+        "methods" => Field::Judged(
+            Shape::Texts(TextKind::Method),
+            DefaultValue::Texts(TextList::Methods),
+        ),
+        "credentials" | "preflight_continue" => Field::Judged(
+            Shape::Flag,
+            DefaultValue::Flag(false),
+        ),
+        "max_age" => Field::Judged(Shape::Whole { low: 0, high: MOST }, Unset),
         "private_network" => Field::Fixed(Constant::Bit(false)),
         _ => Field::Unknown,
     }
@@ -54,9 +64,13 @@ fn key_auth_field(name: &str) -> Field
     ensures depth { depth_of result ≡ 0 }
 {
     match name {
-        "key_names" => Field::Judged(Shape::Texts(TextKind::Token)),
-        "key_in_header" | "key_in_query" | "hide_credentials" => Field::Judged(Shape::Flag),
-        "anonymous" => Field::Judged(Shape::Text(TextKind::Anonymous)),
+        "key_names" => Field::Judged(
+            Shape::Texts(TextKind::Token),
+            DefaultValue::Texts(TextList::KeyNames),
+        ),
+        "key_in_header" | "key_in_query" => Field::Judged(Shape::Flag, DefaultValue::Flag(true)),
+        "hide_credentials" => Field::Judged(Shape::Flag, DefaultValue::Flag(false)),
+        "anonymous" => Field::Judged(Shape::Text(TextKind::Anonymous), Unset),
         "key_in_body" => Field::Fixed(Constant::Bit(false)),
         "run_on_preflight" => Field::Fixed(Constant::Bit(true)),
         "realm" => Field::Fixed(Constant::Nothing),
@@ -69,8 +83,8 @@ fn basic_auth_field(name: &str) -> Field
     ensures depth { depth_of result ≡ 0 }
 {
     match name {
-        "hide_credentials" => Field::Judged(Shape::Flag),
-        "anonymous" => Field::Judged(Shape::Text(TextKind::Anonymous)),
+        "hide_credentials" => Field::Judged(Shape::Flag, DefaultValue::Flag(false)),
+        "anonymous" => Field::Judged(Shape::Text(TextKind::Anonymous), Unset),
         "realm" => Field::Fixed(Constant::Phrase(Phrase::Service)),
         _ => Field::Unknown,
     }
@@ -81,7 +95,7 @@ fn ip_restriction_field(name: &str) -> Field
     ensures depth { depth_of result ≡ 0 }
 {
     match name {
-        "allow" | "deny" => Field::Judged(Shape::Texts(TextKind::AddressBlock)),
+        "allow" | "deny" => Field::Judged(Shape::Texts(TextKind::AddressBlock), Unset),
         "status" | "message" => Field::Fixed(Constant::Nothing),
         _ => Field::Unknown,
     }
@@ -92,8 +106,14 @@ fn size_limit_field(name: &str) -> Field
     ensures depth { depth_of result ≡ 0 }
 {
     match name {
-        "allowed_payload_size" => Field::Judged(Shape::Whole { low: 1, high: MOST }),
-        "size_unit" => Field::Judged(Shape::OneOf(Choice::SizeUnit)),
+        "allowed_payload_size" => Field::Judged(
+            Shape::Whole { low: 1, high: MOST },
+            DefaultValue::Whole(128),
+        ),
+        "size_unit" => Field::Judged(
+            Shape::OneOf(Choice::SizeUnit),
+            DefaultValue::SizeUnit(SizeUnit::Megabytes),
+        ),
         "require_content_length" => Field::Fixed(Constant::Bit(false)),
         _ => Field::Unknown,
     }
@@ -104,8 +124,8 @@ fn acl_config_field(name: &str) -> Field
     ensures depth { depth_of result ≡ 0 }
 {
     match name {
-        "allow" | "deny" => Field::Judged(Shape::Texts(TextKind::FreeText)),
-        "hide_groups_header" => Field::Judged(Shape::Flag),
+        "allow" | "deny" => Field::Judged(Shape::Texts(TextKind::FreeText), Unset),
+        "hide_groups_header" => Field::Judged(Shape::Flag, DefaultValue::Flag(false)),
         "always_use_authenticated_groups" | "include_consumer_groups" => {
             Field::Fixed(Constant::Bit(false))
         }
@@ -119,12 +139,15 @@ fn rate_limiting_field(name: &str) -> Field
 {
     match name {
         "second" | "minute" | "hour" | "day" => {
-            Field::Judged(Shape::Whole { low: 1, high: MOST })
+            Field::Judged(Shape::Whole { low: 1, high: MOST }, Unset)
         }
         "month" | "year" => Field::Fixed(Constant::Nothing),
-        "limit_by" => Field::Judged(Shape::OneOf(Choice::LimitBy)),
+        "limit_by" => Field::Judged(
+            Shape::OneOf(Choice::LimitBy),
+            DefaultValue::LimitBy(LimitBy::Consumer),
+        ),
         "policy" => Field::Fixed(Constant::Phrase(Phrase::Local)),
-        "hide_client_headers" => Field::Judged(Shape::Flag),
+        "hide_client_headers" => Field::Judged(Shape::Flag, DefaultValue::Flag(false)),
         "error_code" => Field::Fixed(Constant::Number(429)),
         "error_message" => Field::Fixed(Constant::Phrase(Phrase::LimitExceeded)),
         "fault_tolerant" => Field::Dropped,
@@ -166,12 +189,15 @@ fn termination_field(name: &str) -> Field
     ensures depth { depth_of result ≡ 0 }
 {
     match name {
-        "status_code" => Field::Judged(Shape::Whole {
-            low: 200,
-            high: 599,
-        }),
-        "message" | "content_type" => Field::Judged(Shape::Text(TextKind::FreeText)),
-        "body" => Field::Judged(Shape::Text(TextKind::LongText)),
+        "status_code" => Field::Judged(
+            Shape::Whole {
+                low: 200,
+                high: 599,
+            },
+            DefaultValue::Whole(503),
+        ),
+        "message" | "content_type" => Field::Judged(Shape::Text(TextKind::FreeText), Unset),
+        "body" => Field::Judged(Shape::Text(TextKind::LongText), Unset),
         "trigger" => Field::Fixed(Constant::Nothing),
         "echo" => Field::Fixed(Constant::Bit(false)),
         _ => Field::Unknown,
@@ -196,8 +222,8 @@ pub fn request_edits_field(edits: EditList, name: &str) -> Field
     ensures depth { depth_of result ≡ 0 }
 {
     match name {
-        "headers" => Field::Judged(Shape::Texts(header_text_kind(edits))),
-        "querystring" => Field::Judged(Shape::Texts(TextKind::Edit)),
+        "headers" => Field::Judged(Shape::Texts(header_text_kind(edits)), Unset),
+        "querystring" => Field::Judged(Shape::Texts(TextKind::Edit), Unset),
         "body" => Field::Fixed(Constant::Nothing),
         "uri" => uri_field(edits),
         _ => Field::Unknown,
@@ -224,7 +250,7 @@ pub fn response_edits_field(edits: EditList, name: &str) -> Field
     ensures depth { depth_of result ≡ 0 }
 {
     match name {
-        "headers" => Field::Judged(Shape::Texts(header_text_kind(edits))),
+        "headers" => Field::Judged(Shape::Texts(header_text_kind(edits)), Unset),
         "json" => Field::Fixed(Constant::Nothing),
         _ => Field::Unknown,
     }
