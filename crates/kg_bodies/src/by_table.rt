@@ -29,7 +29,7 @@ pub fn text_in(
     ensures { IfOk result (λ found. found ≡ text_in table name.now (view body.now)) }
 {
     match field_of(table, name) {
-        Field::Judged(Shape::Text(text_kind)) => text_at(alloc, text_kind, name, body),
+        Field::Judged(Shape::Text(text_kind), _) => text_at(alloc, text_kind, name, body),
         _ => Ok(None),
     }
 }
@@ -45,7 +45,7 @@ pub fn texts_in(
     ensures { IfOk result (λ found. found ≡ texts_in table name.now (view body.now)) }
 {
     match field_of(table, name) {
-        Field::Judged(Shape::Texts(text_kind)) => texts_at(alloc, text_kind, name, body),
+        Field::Judged(Shape::Texts(text_kind), _) => texts_at(alloc, text_kind, name, body),
         _ => Ok(List::new(alloc)),
     }
 }
@@ -77,7 +77,7 @@ pub fn whole_in(
     ensures within { IfOk result (λ found. IfSome found (IsWithin (field_of table name.now))) }
 {
     match field_of(table, name) {
-        Field::Judged(Shape::Whole { low, high }) => whole_at(alloc, low, high, name, body),
+        Field::Judged(Shape::Whole { low, high }, _) => whole_at(alloc, low, high, name, body),
         _ => Ok(None),
     }
 }
@@ -94,7 +94,7 @@ pub fn integer_in(
     ensures within { IfOk result (λ found. IfSome found (IsIntegerWithin (field_of table name.now))) }
 {
     match field_of(table, name) {
-        Field::Judged(Shape::Integer { low, high }) => integer_at(alloc, low, high, name, body),
+        Field::Judged(Shape::Integer { low, high }, _) => integer_at(alloc, low, high, name, body),
         _ => Ok(None),
     }
 }

@@ -110,7 +110,7 @@ fn table_inside(field: Field) -> Option<Table>
         Field::Unknown => None,
         Field::Dropped => None,
         Field::Fixed(_) => None,
-        Field::Judged(_) => None,
+        Field::Judged(_, _) => None,
     }
 }
 
@@ -136,7 +136,7 @@ pub fn field_rule(alloc: Global, field: Field, value: &Value) -> Result<Option<R
                 Ok(None)
             }
         }
-        Field::Judged(shape) => judged(alloc, shape, value),
+        Field::Judged(shape, _) => judged(alloc, shape, value),
         Field::Inside(_) => Ok(object_rule(value)),
     }
 }
