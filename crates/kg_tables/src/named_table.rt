@@ -1,10 +1,13 @@
 //! The rows of one kind, found also by each text that only one of them should have.
 
-ghost use Rattle.std.specs.Prelude.{◌≡◌, [], ◌∷◌, ◌++◌, ◌==◌, ◌&&◌, false, IfOk, OnOk, OnErr, find, filter, not};
+ghost use Rattle.std.specs.Prelude.{◌≡◌, ℕ, List, ◌<◌, [], ◌∷◌, ◌++◌, ◌==◌, ◌&&◌, false, IfOk, OnOk, OnErr, find, filter, not};
+ghost use Rattle.std.specs.Str.{bytes_eq};
+ghost use Rattle.indexmap.specs.IndexMap.{spare};
 ghost use Rattle.std.specs.Option.{option_copied};
 ghost use Rattle.std.specs.List.{list_any};
 ghost use Rattle.kg_row_types.specs.Lookups.{is_text};
 ghost use Rattle.kg_row_types.specs.Tables.{replaced};
+ghost use Rattle.kg_tables.specs.KeyIndexes.{holder_of};
 ghost use Rattle.kg_tables.specs.Others.{is_other};
 ghost use Rattle.kg_tables.specs.References.{refers};
 
@@ -108,10 +111,8 @@ impl<T: Named> NamedTable<T> {
         ensures err { OnErr result (self.new ≡ self.old) }
     {
         let id = row.id();
-        let name = copied(alloc, row.name())?;
-        let alias = copied(alloc, row.alias())?;
-        self.names.reserve()?;
-        self.aliases.reserve()?;
+        let texts = texts_for(alloc, &row, &mut self.names, &mut self.aliases)?;
+        let (name, alias) = texts;
         self.table.push(row)?;
         self.names.note(name, id);
         self.aliases.note(alias, id);
@@ -124,10 +125,8 @@ impl<T: Named> NamedTable<T> {
         ensures err { OnErr result (self.new ≡ self.old) }
     {
         let id = row.id();
-        let name = copied(alloc, row.name())?;
-        let alias = copied(alloc, row.alias())?;
-        self.names.reserve()?;
-        self.aliases.reserve()?;
+        let texts = texts_for(alloc, &row, &mut self.names, &mut self.aliases)?;
+        let (name, alias) = texts;
         self.table.ids_differ(); // for the proof: one row alone is replaced
         let Some(old) = self.table.replace(row)? else {
             return Ok(());
@@ -158,6 +157,25 @@ impl<T: Named> NamedTable<T> {
             self.remove(own);
         }
     }
+}
+
+// Room in the indexes for the texts of a row, and copies of them.
+fn texts_for<T: Named>(
+    alloc: Global,
+    row: &T,
+    names: &mut KeyIndex<Text>,
+    aliases: &mut KeyIndex<Text>,
+) -> Result<(Option<Text>, Option<Text>), NoMemory>
+    ensures texts { IfOk result (λ texts. (texts.0 ≡ T.name row.now) × (texts.1 ≡ T.alias row.now)) }
+    ensures room { OnOk result ((0 < spare names.new.holders) × (0 < spare aliases.new.holders)) }
+    ensures names { (key : List ℕ) → holder_of bytes_eq names.new key ≡ holder_of bytes_eq names.old key }
+    ensures aliases { (key : List ℕ) → holder_of bytes_eq aliases.new key ≡ holder_of bytes_eq aliases.old key }
+{
+    names.reserve()?;
+    aliases.reserve()?;
+    let name = copied(alloc, row.name())?;
+    let alias = copied(alloc, row.alias())?;
+    Ok((name, alias))
 }
 
 fn copied(alloc: Global, text: Option<&Text>) -> Result<Option<Text>, NoMemory>

@@ -80,7 +80,10 @@ impl PluginTable {
     {
         let id = plugin.id;
         let key = key_of(&plugin);
-        self.keys.reserve()?;
+        let Ok(()) = self.keys.reserve() else {
+            drop(plugin); // let go by name: a short proof
+            return Err(NoMemory);
+        };
         self.table.push(plugin)?;
         self.keys.note(Some(key), id);
         Ok(())
@@ -93,7 +96,10 @@ impl PluginTable {
     {
         let id = plugin.id;
         let key = key_of(&plugin);
-        self.keys.reserve()?;
+        let Ok(()) = self.keys.reserve() else {
+            drop(plugin); // let go by name: a short proof
+            return Err(NoMemory);
+        };
         self.table.ids_differ(); // for the proof: one row alone is replaced
         let Some(old) = self.table.replace(plugin)? else {
             return Ok(());

@@ -15,10 +15,10 @@ invariant_of-self-2 g c =
     let free = ap (list_any (λ other. nat_eq (number other) (number row))) c.self.view_is ∙ c.requires.new in (
       subst (IsIndex number (λ text row. is_text text (g.T.Named.name row)) (holder_of bytes_eq c.note.new.self)) (sym c.in_ok-push.ensures.ok)
           (index_push number (λ text row. is_text text (g.T.Named.name row)) (holder_of bytes_eq c.self.inside.names) (holder_of bytes_eq c.note.new.self) row rows
-          (λ text. c.note.ensures text ∙ noted_alike bytes_eq text (c.in_ok-name.ensures ∙ c.name.ensures) c.id-id.ensures (c.reserve.ensures.same text))
+          (λ text. c.note.ensures text ∙ noted_alike bytes_eq text c.in_ok-texts.ensures.texts.0 c.id-id.ensures (c.texts_for.ensures.names text))
           free c.self.invariant.0),
       subst (IsIndex number (λ text row. is_text text (g.T.Named.alias row)) (holder_of bytes_eq c.note-2.new.self)) (sym c.in_ok-push.ensures.ok)
           (index_push number (λ text row. is_text text (g.T.Named.alias row)) (holder_of bytes_eq c.self.inside.aliases) (holder_of bytes_eq c.note-2.new.self) row rows
-          (λ text. c.note-2.ensures text ∙ noted_alike bytes_eq text (c.in_ok-alias.ensures ∙ c.alias.ensures) c.id-id.ensures (c.reserve-2.ensures.same text))
+          (λ text. c.note-2.ensures text ∙ noted_alike bytes_eq text c.in_ok-texts.ensures.texts.1 c.id-id.ensures (c.texts_for.ensures.aliases text))
           free c.self.invariant.1),
     )

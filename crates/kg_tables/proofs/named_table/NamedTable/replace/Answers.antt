@@ -14,8 +14,8 @@ invariant_of-self-in_default g c =
     let test : g.row.T.Denot → Bool = has_id number (number c.args.row) in
     let none : find test rows ≡ None = sym c.in_ok-old.ensures.old ∙ c.in_default.is in
     let same : rows ≡ c.replace.new.self = not_replaced number c.args.row test rows (sym (is_some-find number test rows) ∙ ap is_some none) ∙ sym c.in_ok-old.ensures.ok in (
-      subst (IsIndex number (λ text row. is_text text (g.T.Named.name row)) (holder_of bytes_eq c.reserve.new.self)) same (index_same number (λ text row. is_text text (g.T.Named.name row)) (holder_of bytes_eq c.self.inside.names) (holder_of bytes_eq c.reserve.new.self) rows c.reserve.ensures.same c.self.invariant.0),
-      subst (IsIndex number (λ text row. is_text text (g.T.Named.alias row)) (holder_of bytes_eq c.reserve-2.new.self)) same (index_same number (λ text row. is_text text (g.T.Named.alias row)) (holder_of bytes_eq c.self.inside.aliases) (holder_of bytes_eq c.reserve-2.new.self) rows c.reserve-2.ensures.same c.self.invariant.1),
+      subst (IsIndex number (λ text row. is_text text (g.T.Named.name row)) (holder_of bytes_eq c.texts_for.new.names)) same (index_same number (λ text row. is_text text (g.T.Named.name row)) (holder_of bytes_eq c.self.inside.names) (holder_of bytes_eq c.texts_for.new.names) rows c.texts_for.ensures.names c.self.invariant.0),
+      subst (IsIndex number (λ text row. is_text text (g.T.Named.alias row)) (holder_of bytes_eq c.texts_for.new.aliases)) same (index_same number (λ text row. is_text text (g.T.Named.alias row)) (holder_of bytes_eq c.self.inside.aliases) (holder_of bytes_eq c.texts_for.new.aliases) rows c.texts_for.ensures.aliases c.self.invariant.1),
     )
 
 -- the row's texts take the place of those of the row with its id
@@ -28,12 +28,12 @@ invariant_of-self-2 g c =
     let found : find (has_id number (number row)) rows ≡ Some old = sym c.in_ok-old.ensures.old ∙ c.in-Some.is in (
       subst (IsIndex number (λ text row. is_text text (g.T.Named.name row)) (holder_of bytes_eq c.exchange.new.self)) (sym c.in_ok-old.ensures.ok)
           (index_replaced number (λ text row. is_text text (g.T.Named.name row)) (holder_of bytes_eq c.self.inside.names) (holder_of bytes_eq c.exchange.new.self) old row rows
-          (λ text. c.exchange.ensures text ∙ noted_alike bytes_eq text (c.in_ok-name.ensures ∙ c.name.ensures) c.id-id.ensures
-          (forgotten_alike bytes_eq text c.name-2.ensures c.id-id.ensures (c.reserve.ensures.same text)))
+          (λ text. c.exchange.ensures text ∙ noted_alike bytes_eq text c.in_ok-texts.ensures.texts.0 c.id-id.ensures
+          (forgotten_alike bytes_eq text c.name.ensures c.id-id.ensures (c.texts_for.ensures.names text)))
           found c.ids_differ.ensures c.self.invariant.0),
       subst (IsIndex number (λ text row. is_text text (g.T.Named.alias row)) (holder_of bytes_eq c.exchange-2.new.self)) (sym c.in_ok-old.ensures.ok)
           (index_replaced number (λ text row. is_text text (g.T.Named.alias row)) (holder_of bytes_eq c.self.inside.aliases) (holder_of bytes_eq c.exchange-2.new.self) old row rows
-          (λ text. c.exchange-2.ensures text ∙ noted_alike bytes_eq text (c.in_ok-alias.ensures ∙ c.alias.ensures) c.id-id.ensures
-          (forgotten_alike bytes_eq text c.alias-2.ensures c.id-id.ensures (c.reserve-2.ensures.same text)))
+          (λ text. c.exchange-2.ensures text ∙ noted_alike bytes_eq text c.in_ok-texts.ensures.texts.1 c.id-id.ensures
+          (forgotten_alike bytes_eq text c.alias.ensures c.id-id.ensures (c.texts_for.ensures.aliases text)))
           found c.ids_differ.ensures c.self.invariant.1),
     )

@@ -1,7 +1,7 @@
 use Rattle.std.proofs.Common.{◌≡◌, ℕ, None, Some, find, is_some, sym, ap, subst, ◌∙◌}
 use Rattle.kg_row_types.specs.declared.plugin.PluginRow.{PluginRow}
 use Rattle.kg_tables.specs.KeyIndexes.{IsIndex, forgotten, holder_of, is_key}
-use Rattle.kg_tables.specs.PluginKeys.{has_key, key_eq, key_of}
+use Rattle.kg_tables.specs.PluginKeys.{has_key, key_eq}
 use Rattle.kg_tables.proofs.TableLemmas.{is_some-find}
 use Rattle.kg_tables.proofs.KeyIndexLemmas.{all_left, has_id, index_removed}
 use Rattle.kg_tables.proofs.plugin_table.PluginTable.remove.Goals as goal

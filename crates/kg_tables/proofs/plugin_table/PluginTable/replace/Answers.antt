@@ -19,11 +19,11 @@ invariant_of-self-in_err-old c =
     (index_same number has_key (holder_of key_eq c.self.inside.keys) (holder_of key_eq c.reserve.new.self) c.self.inside.table c.reserve.ensures.same c.self.invariant)
 
 -- no plugin has the id
-pub invariant_of-self-in_default : goal.invariant_of-self-in_default
-invariant_of-self-in_default c =
+pub invariant_of-self-in_default-2 : goal.invariant_of-self-in_default-2
+invariant_of-self-in_default-2 c =
     let rows = c.self.inside.table in
     let test = has_id number c.args.plugin.id in
-    let none : find test rows ≡ None = sym c.in_ok-old.ensures.old ∙ c.in_default.is in
+    let none : find test rows ≡ None = sym c.in_ok-old.ensures.old ∙ c.in_default-2.is in
     let same : rows ≡ c.replace.new.self = not_replaced number c.args.plugin test rows (sym (is_some-find number test rows) ∙ ap is_some none) ∙ sym c.in_ok-old.ensures.ok in
     subst (IsIndex number has_key (holder_of key_eq c.reserve.new.self)) same
     (index_same number has_key (holder_of key_eq c.self.inside.keys) (holder_of key_eq c.reserve.new.self) rows c.reserve.ensures.same c.self.invariant)
