@@ -1,15 +1,13 @@
 -- When a change of a list of rows leaves it as it was.
-use Rattle.std.proofs.Common.{◌≡◌, ◌≢◌, ◌↔◌, ◌⊎◌, ℕ, ◌+◌, ◌<◌, ◌==◌, Bool, true, false, cond, not, ◌||◌, IsTrue, List, [], ◌∷◌, ◌++◌, length, get_or, Contains, Option, Some, None, filter, find, refl, sym, ap, subst, ◌∙◌, inl, inr, ⊎_elim, true≢false, length-append, arith, if◌then◌else◌}
+use Rattle.std.proofs.Common.{◌≡◌, ◌≢◌, ◌↔◌, ◌⊎◌, ℕ, ◌<◌, ◌==◌, Bool, true, false, cond, not, ◌||◌, IsTrue, List, [], ◌∷◌, ◌++◌, get_or, Contains, Option, Some, None, filter, find, refl, sym, ap, subst, ◌∙◌, inl, inr, ⊎_elim, true≢false, arith, if◌then◌else◌}
 use Rattle.std.proofs.lemmas.List.Elements.{Contains-append_left, Contains-get_or, Contains-push, Contains-push_cases}
 use Rattle.std.proofs.lemmas.List.Quantifiers.{all_pairs_push}
 use Rattle.std.proofs.lemmas.Option.{same_Some}
 use Rattle.std.specs.List.{AllPairs, list_any}
 use Rattle.std.specs.Option.{is_some}
-use Rattle.kg_row_types.specs.RowChanges.{inserted}
 use Rattle.kg_row_types.specs.RowLists.{RowLists}
 use Rattle.kg_row_types.specs.Tables.{replaced}
 use Rattle.kg_row_types.specs.Values.{Generation, RouterRows, PluginRows}
-use Rattle.kg_row_types.specs.declared.entity.Entity.TheVariants as row
 use Rattle.kg_row_types.specs.declared.entity.Kind.TheVariants as kind
 use Rattle.kg_row_types.specs.declared.key.GenKey.{GenKey}
 use Rattle.kg_row_types.specs.declared.key.GenKey.TheVariants.{Router, Plugins}
@@ -29,12 +27,6 @@ rest_of [] = []
 rest_of (x ∷ xs) = xs
 
 module _ {X : Type 0} where
-  -- a push makes another list
-  longer : (x : X) (xs : List X) → xs ≢ xs ++ x ∷ []
-  longer x xs same =
-      let lengths : length xs ≡ length xs + 1 = ap length same ∙ length-append xs (x ∷ []) in
-      absurd (omega (arith, lengths))
-
   -- ---- members taken out
 
   none_gone : (gone : X → Bool) (xs : List X) → list_any gone xs ≡ false → xs ≡ filter (λ x. not (gone x)) xs
@@ -112,16 +104,6 @@ plugins_in (RouterRows services routes) = []
 plugins_in (PluginRows plugins) = plugins
 
 module _ (rows : RowLists) where
-  -- one more service, route or plugin
-  pub service_added : (new : Service) → IsTrue false ↔ (generation_of rows Router ≡ generation_of (inserted (row.Service new) rows) Router)
-  service_added new = (λ wrong. absurd (true≢false (sym wrong)), λ same. absurd (longer new rows.services (ap services_in same)))
-
-  pub route_added : (new : Route) → IsTrue false ↔ (generation_of rows Router ≡ generation_of (inserted (row.Route new) rows) Router)
-  route_added new = (λ wrong. absurd (true≢false (sym wrong)), λ same. absurd (longer new rows.routes (ap routes_in same)))
-
-  pub plugin_added : (new : PluginRow) → IsTrue false ↔ (generation_of rows Plugins ≡ generation_of (inserted (row.Plugin new) rows) Plugins)
-  plugin_added new = (λ wrong. absurd (true≢false (sym wrong)), λ same. absurd (longer new rows.plugins (ap plugins_in same)))
-
   -- rows taken out
   module _ (id : ℕ) (b : Bool) where
     pub services_gone : b ≡ list_any (λ row. row.id == id) rows.services → IsTrue (not b) ↔ (generation_of rows Router ≡ generation_of (deleted kind.Service id rows) Router)
