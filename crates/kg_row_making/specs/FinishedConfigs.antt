@@ -1,6 +1,6 @@
 -- The config that a body makes for a plugin: what the body sets, over the old config or over the
 -- defaults (Kong's page of each plugin). A field that is set replaces the old one as a whole.
-use Rattle.std.specs.Prelude.{ℕ, ◌==◌, Bool, ◌&&◌, true, false, List, [], ◌∷◌, length, Option, Some, None, unwrap_or, codes, if◌then◌else◌}
+use Rattle.std.specs.Prelude.{ℕ, ◌==◌, Bool, ◌&&◌, List, [], length, Option, None, unwrap_or, codes, if◌then◌else◌}
 use Rattle.std.specs.Option.{option_or}
 use Rattle.serde_json.specs.Data.{Data}
 use Rattle.kg_row_types.specs.declared.config.Acl.{Acl}
@@ -11,17 +11,16 @@ use Rattle.kg_row_types.specs.declared.config.Cors.{Cors}
 use Rattle.kg_row_types.specs.declared.config.Edits.{Edits}
 use Rattle.kg_row_types.specs.declared.config.IpRestriction.{IpRestriction}
 use Rattle.kg_row_types.specs.declared.config.KeyAuth.{KeyAuth}
-use Rattle.kg_row_types.specs.declared.config.LimitBy.TheVariants as limit
 use Rattle.kg_row_types.specs.declared.config.RateLimiting.{RateLimiting}
 use Rattle.kg_row_types.specs.declared.config.RequestTransformer.{RequestTransformer}
 use Rattle.kg_row_types.specs.declared.config.ResponseTransformer.{ResponseTransformer}
 use Rattle.kg_row_types.specs.declared.config.SizeLimit.{SizeLimit}
-use Rattle.kg_row_types.specs.declared.config.SizeUnit.TheVariants as unit
 use Rattle.kg_row_types.specs.declared.config.Termination.{Termination}
 use Rattle.kg_row_types.specs.declared.plugin.PluginName.{PluginName}
 use Rattle.kg_row_types.specs.declared.plugin.PluginName.TheVariants as plugin
 use Rattle.kg_bodies.specs.Settings.{flag_at, size_unit_at, limit_by_at, inside}
 use Rattle.kg_bodies.specs.TableSettings.{text_in, texts_in, whole_in}
+use Rattle.kg_field_tables.specs.Defaults.{default_flag, default_limit_by, default_number, default_size_unit, default_texts, default_whole}
 use Rattle.kg_field_tables.specs.declared.table.EditList.TheVariants as edits
 use Rattle.kg_field_tables.specs.declared.table.Table.{Table}
 use Rattle.kg_field_tables.specs.declared.table.Table.TheVariants.{Config as ConfigOf, RequestEdits, ResponseEdits}
@@ -30,53 +29,58 @@ use Rattle.kg_field_tables.specs.declared.table.Table.TheVariants.{Config as Con
 abbrev pub list_over : {A : Type 0} → List A → List A → List A
 list_over set before = if length set == 0 then before else set
 
--- ---- the defaults
-
-abbrev pub default_methods : List (List ℕ)
-default_methods =
-    codes "GET" ∷ codes "HEAD" ∷ codes "PUT" ∷ codes "PATCH" ∷ codes "POST" ∷ codes "DELETE"
-    ∷ codes "OPTIONS" ∷ codes "TRACE" ∷ codes "CONNECT" ∷ []
+-- ---- the defaults: those of the tables of fields, and nothing where a table has none
 
 abbrev pub default_cors : Cors
 default_cors = record {
   origins = [];
-  methods = default_methods;
+  methods = default_texts (ConfigOf plugin.Cors) (codes "methods");
   headers = [];
   exposed_headers = [];
-  credentials = false;
-  max_age = None;
-  preflight_continue = false;
+  credentials = default_flag (ConfigOf plugin.Cors) (codes "credentials");
+  max_age = default_number (ConfigOf plugin.Cors) (codes "max_age");
+  preflight_continue = default_flag (ConfigOf plugin.Cors) (codes "preflight_continue");
 }
 
 abbrev pub default_key_auth : KeyAuth
 default_key_auth = record {
-  key_names = codes "apikey" ∷ [];
-  key_in_header = true;
-  key_in_query = true;
-  hide_credentials = false;
+  key_names = default_texts (ConfigOf plugin.KeyAuth) (codes "key_names");
+  key_in_header = default_flag (ConfigOf plugin.KeyAuth) (codes "key_in_header");
+  key_in_query = default_flag (ConfigOf plugin.KeyAuth) (codes "key_in_query");
+  hide_credentials = default_flag (ConfigOf plugin.KeyAuth) (codes "hide_credentials");
   anonymous = None;
 }
 
 abbrev pub default_basic_auth : BasicAuth
-default_basic_auth = record { hide_credentials = false; anonymous = None }
+default_basic_auth = record {
+  hide_credentials = default_flag (ConfigOf plugin.BasicAuth) (codes "hide_credentials");
+  anonymous = None;
+}
 
 abbrev pub default_ip_restriction : IpRestriction
 default_ip_restriction = record { allow = []; deny = [] }
 
 abbrev pub default_size_limit : SizeLimit
-default_size_limit = record { allowed_payload_size = 128; size_unit = unit.Megabytes }
+default_size_limit = record {
+  allowed_payload_size = default_whole (ConfigOf plugin.RequestSizeLimiting) (codes "allowed_payload_size");
+  size_unit = default_size_unit (ConfigOf plugin.RequestSizeLimiting) (codes "size_unit");
+}
 
 abbrev pub default_acl : Acl
-default_acl = record { allow = []; deny = []; hide_groups_header = false }
+default_acl = record {
+  allow = [];
+  deny = [];
+  hide_groups_header = default_flag (ConfigOf plugin.Acl) (codes "hide_groups_header");
+}
 
 abbrev pub default_rate_limiting : RateLimiting
 default_rate_limiting = record {
-  second = None;
-  minute = None;
-  hour = None;
-  day = None;
-  limit_by = limit.Consumer;
-  hide_client_headers = false;
+  second = default_number (ConfigOf plugin.RateLimiting) (codes "second");
+  minute = default_number (ConfigOf plugin.RateLimiting) (codes "minute");
+  hour = default_number (ConfigOf plugin.RateLimiting) (codes "hour");
+  day = default_number (ConfigOf plugin.RateLimiting) (codes "day");
+  limit_by = default_limit_by (ConfigOf plugin.RateLimiting) (codes "limit_by");
+  hide_client_headers = default_flag (ConfigOf plugin.RateLimiting) (codes "hide_client_headers");
 }
 
 abbrev pub no_edits : Edits
@@ -89,7 +93,12 @@ abbrev pub default_response_transformer : ResponseTransformer
 default_response_transformer = record { remove = []; rename = []; replace = []; add = []; append = [] }
 
 abbrev pub default_termination : Termination
-default_termination = record { status_code = 503; message = None; body = None; content_type = None }
+default_termination = record {
+  status_code = default_whole (ConfigOf plugin.RequestTermination) (codes "status_code");
+  message = None;
+  body = None;
+  content_type = None;
+}
 
 -- the config that a plugin has where nothing is set
 abbrev pub default_config : PluginName → Config

@@ -1,7 +1,7 @@
 -- The row of a kind as it stands before a body sets anything: the old one, or a new one with the defaults
--- of its kind (Kong Admin API, the entities' pages). Where something that is required is missing the row
--- holds an empty text or its own id in its place.
-use Rattle.std.specs.Prelude.{pos, true, false, [], None, unwrap_or}
+-- that stand in the table of its fields. Where something that is required is missing the row holds an empty
+-- text or its own id in its place.
+use Rattle.std.specs.Prelude.{[], None, unwrap_or, codes}
 use Rattle.std.specs.Option.{option_map_or}
 use Rattle.serde_json.specs.Data.{Data}
 use Rattle.kg_row_types.specs.declared.consumer.AclRow.{AclRow}
@@ -17,6 +17,8 @@ use Rattle.kg_row_types.specs.declared.plugin.PluginRow.{PluginRow}
 use Rattle.kg_row_types.specs.declared.route.Route.{Route}
 use Rattle.kg_row_types.specs.declared.service.Service.{Service}
 use Rattle.kg_field_tables.specs.BrokenRules.{named_plugin}
+use Rattle.kg_field_tables.specs.Defaults.{default_flag, default_https, default_integer, default_whole}
+use Rattle.kg_field_tables.specs.declared.table.Table.TheVariants as table
 use Rattle.kg_row_making.specs.Bases.{BaseValue, given_word, old_as, service_of, route_of, consumer_of, key_of, basic_of, acl_of, plugin_row_of, stamps_of}
 use Rattle.kg_row_making.specs.FinishedConfigs.{default_config}
 use Rattle.kg_row_making.specs.declared.base.Stamps.{Stamps}
@@ -29,10 +31,10 @@ new_service base stamps = record {
   id = stamps.id;
   name = given_word base;
   host = [];
-  port = 80;
+  port = default_whole table.Service (codes "port");
   path = None;
-  retries = 5;
-  enabled = true;
+  retries = default_whole table.Service (codes "retries");
+  enabled = default_flag table.Service (codes "enabled");
   created_at = stamps.created_at;
   updated_at = stamps.updated_at;
 }
@@ -50,14 +52,14 @@ new_route base stamps = record {
   id = stamps.id;
   name = given_word base;
   service = stamps.id;
-  https = true;
+  https = default_https table.Route (codes "protocols");
   methods = [];
   hosts = [];
   paths = [];
   headers = [];
-  regex_priority = pos 0;
-  strip_path = true;
-  preserve_host = false;
+  regex_priority = default_integer table.Route (codes "regex_priority");
+  strip_path = default_flag table.Route (codes "strip_path");
+  preserve_host = default_flag table.Route (codes "preserve_host");
   created_at = stamps.created_at;
   updated_at = stamps.updated_at;
 }
@@ -122,17 +124,17 @@ acl_before base stamps = unwrap_or (old_as acl_of base) (new_acl base stamps)
 -- ---- plugins
 
 -- a new plugin has the config that its name has by default
-abbrev pub new_plugin : BaseValue → Stamps → Data → PluginRow
-new_plugin base stamps body = record {
+abbrev pub new_plugin : Stamps → Data → PluginRow
+new_plugin stamps body = record {
   id = stamps.id;
   scope = record { service = None; route = None; consumer = None };
-  enabled = true;
+  enabled = default_flag (table.Plugin (named_plugin body)) (codes "enabled");
   config = default_config (unwrap_or (named_plugin body) plugin.Cors);
   created_at = stamps.created_at;
 }
 
 abbrev pub plugin_before : BaseValue → Stamps → Data → PluginRow
-plugin_before base stamps body = unwrap_or (old_as plugin_row_of base) (new_plugin base stamps body)
+plugin_before base stamps body = unwrap_or (old_as plugin_row_of base) (new_plugin stamps body)
 
 -- ---- any kind
 

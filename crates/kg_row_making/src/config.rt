@@ -21,94 +21,94 @@ use serde_json::Value;
 use std::alloc::Global;
 
 /// Sets in a config what the body sets.
-pub fn set_config(alloc: Global, config: &Value, place: &mut Config) -> Result<(), NoMemory>
-    ensures { OnOk result (place.new ≡ config_over (view config.now) place.old) }
+pub fn set_config(alloc: Global, config: &Value, target: &mut Config) -> Result<(), NoMemory>
+    ensures { OnOk result (target.new ≡ config_over (view config.now) target.old) }
 {
-    match place {
-        Config::Cors(place) => set_cors(alloc, config, place),
-        Config::KeyAuth(place) => set_key_auth(alloc, config, place),
-        Config::BasicAuth(place) => set_basic_auth(alloc, config, place),
-        Config::IpRestriction(place) => set_ip_restriction(alloc, config, place),
-        Config::RequestSizeLimiting(place) => set_size_limit(alloc, config, place),
-        Config::Acl(place) => set_groups(alloc, config, place),
-        Config::RateLimiting(place) => set_rate_limiting(alloc, config, place),
-        Config::RequestTransformer(place) => set_request_transformer(alloc, config, place),
-        Config::ResponseTransformer(place) => set_response_transformer(alloc, config, place),
-        Config::RequestTermination(place) => set_termination(alloc, config, place),
+    match target {
+        Config::Cors(target) => set_cors(alloc, config, target),
+        Config::KeyAuth(target) => set_key_auth(alloc, config, target),
+        Config::BasicAuth(target) => set_basic_auth(alloc, config, target),
+        Config::IpRestriction(target) => set_ip_restriction(alloc, config, target),
+        Config::RequestSizeLimiting(target) => set_size_limit(alloc, config, target),
+        Config::Acl(target) => set_groups(alloc, config, target),
+        Config::RateLimiting(target) => set_rate_limiting(alloc, config, target),
+        Config::RequestTransformer(target) => set_request_transformer(alloc, config, target),
+        Config::ResponseTransformer(target) => set_response_transformer(alloc, config, target),
+        Config::RequestTermination(target) => set_termination(alloc, config, target),
     }
 }
 
-fn set_cors(alloc: Global, config: &Value, place: &mut Cors) -> Result<(), NoMemory>
-    ensures { OnOk result (place.new ≡ cors_over (view config.now) place.old) }
+fn set_cors(alloc: Global, config: &Value, target: &mut Cors) -> Result<(), NoMemory>
+    ensures { OnOk result (target.new ≡ cors_over (view config.now) target.old) }
 {
-    set_cors_lists(alloc, config, place)?;
-    set(&mut place.credentials, flag_at("credentials", config));
+    set_cors_lists(alloc, config, target)?;
+    set(&mut target.credentials, flag_at("credentials", config));
     set_option(
-        &mut place.max_age,
+        &mut target.max_age,
         whole_in(alloc, Table::Config(PluginName::Cors), "max_age", config)?,
     );
     set(
-        &mut place.preflight_continue,
+        &mut target.preflight_continue,
         flag_at("preflight_continue", config),
     );
     Ok(())
 }
 
 // Apart from the other settings: a short proof.
-fn set_cors_lists(alloc: Global, config: &Value, place: &mut Cors) -> Result<(), NoMemory>
-    ensures { OnOk result (place.new ≡ cors_lists_over (view config.now) place.old) }
+fn set_cors_lists(alloc: Global, config: &Value, target: &mut Cors) -> Result<(), NoMemory>
+    ensures { OnOk result (target.new ≡ cors_lists_over (view config.now) target.old) }
 {
     let table = Table::Config(PluginName::Cors);
     set_list(
-        &mut place.origins,
+        &mut target.origins,
         texts_in(alloc, table, "origins", config)?,
     );
     set_list(
-        &mut place.methods,
+        &mut target.methods,
         texts_in(alloc, table, "methods", config)?,
     );
     set_list(
-        &mut place.headers,
+        &mut target.headers,
         texts_in(alloc, table, "headers", config)?,
     );
     set_list(
-        &mut place.exposed_headers,
+        &mut target.exposed_headers,
         texts_in(alloc, table, "exposed_headers", config)?,
     );
     Ok(())
 }
 
-fn set_key_auth(alloc: Global, config: &Value, place: &mut KeyAuth) -> Result<(), NoMemory>
-    ensures { OnOk result (place.new ≡ key_auth_over (view config.now) place.old) }
+fn set_key_auth(alloc: Global, config: &Value, target: &mut KeyAuth) -> Result<(), NoMemory>
+    ensures { OnOk result (target.new ≡ key_auth_over (view config.now) target.old) }
 {
     let table = Table::Config(PluginName::KeyAuth);
     set_list(
-        &mut place.key_names,
+        &mut target.key_names,
         texts_in(alloc, table, "key_names", config)?,
     );
-    set(&mut place.key_in_header, flag_at("key_in_header", config));
-    set(&mut place.key_in_query, flag_at("key_in_query", config));
+    set(&mut target.key_in_header, flag_at("key_in_header", config));
+    set(&mut target.key_in_query, flag_at("key_in_query", config));
     set(
-        &mut place.hide_credentials,
+        &mut target.hide_credentials,
         flag_at("hide_credentials", config),
     );
     set_option(
-        &mut place.anonymous,
+        &mut target.anonymous,
         text_in(alloc, table, "anonymous", config)?,
     );
     Ok(())
 }
 
-fn set_basic_auth(alloc: Global, config: &Value, place: &mut BasicAuth) -> Result<(), NoMemory>
-    ensures { OnOk result (place.new ≡ basic_auth_over (view config.now) place.old) }
+fn set_basic_auth(alloc: Global, config: &Value, target: &mut BasicAuth) -> Result<(), NoMemory>
+    ensures { OnOk result (target.new ≡ basic_auth_over (view config.now) target.old) }
 {
     let table = Table::Config(PluginName::BasicAuth);
     set(
-        &mut place.hide_credentials,
+        &mut target.hide_credentials,
         flag_at("hide_credentials", config),
     );
     set_option(
-        &mut place.anonymous,
+        &mut target.anonymous,
         text_in(alloc, table, "anonymous", config)?,
     );
     Ok(())
@@ -117,36 +117,36 @@ fn set_basic_auth(alloc: Global, config: &Value, place: &mut BasicAuth) -> Resul
 fn set_ip_restriction(
     alloc: Global,
     config: &Value,
-    place: &mut IpRestriction,
+    target: &mut IpRestriction,
 ) -> Result<(), NoMemory>
-    ensures { OnOk result (place.new ≡ ip_restriction_over (view config.now) place.old) }
+    ensures { OnOk result (target.new ≡ ip_restriction_over (view config.now) target.old) }
 {
     let table = Table::Config(PluginName::IpRestriction);
-    set_list(&mut place.allow, texts_in(alloc, table, "allow", config)?);
-    set_list(&mut place.deny, texts_in(alloc, table, "deny", config)?);
+    set_list(&mut target.allow, texts_in(alloc, table, "allow", config)?);
+    set_list(&mut target.deny, texts_in(alloc, table, "deny", config)?);
     Ok(())
 }
 
-fn set_size_limit(alloc: Global, config: &Value, place: &mut SizeLimit) -> Result<(), NoMemory>
-    ensures { OnOk result (place.new ≡ size_limit_over (view config.now) place.old) }
+fn set_size_limit(alloc: Global, config: &Value, target: &mut SizeLimit) -> Result<(), NoMemory>
+    ensures { OnOk result (target.new ≡ size_limit_over (view config.now) target.old) }
 {
     let table = Table::Config(PluginName::RequestSizeLimiting);
     set(
-        &mut place.allowed_payload_size,
+        &mut target.allowed_payload_size,
         whole_in(alloc, table, "allowed_payload_size", config)?,
     );
-    set(&mut place.size_unit, size_unit_at(config));
+    set(&mut target.size_unit, size_unit_at(config));
     Ok(())
 }
 
-fn set_groups(alloc: Global, config: &Value, place: &mut Acl) -> Result<(), NoMemory>
-    ensures { OnOk result (place.new ≡ groups_over (view config.now) place.old) }
+fn set_groups(alloc: Global, config: &Value, target: &mut Acl) -> Result<(), NoMemory>
+    ensures { OnOk result (target.new ≡ groups_over (view config.now) target.old) }
 {
     let table = Table::Config(PluginName::Acl);
-    set_list(&mut place.allow, texts_in(alloc, table, "allow", config)?);
-    set_list(&mut place.deny, texts_in(alloc, table, "deny", config)?);
+    set_list(&mut target.allow, texts_in(alloc, table, "allow", config)?);
+    set_list(&mut target.deny, texts_in(alloc, table, "deny", config)?);
     set(
-        &mut place.hide_groups_header,
+        &mut target.hide_groups_header,
         flag_at("hide_groups_header", config),
     );
     Ok(())
@@ -155,31 +155,37 @@ fn set_groups(alloc: Global, config: &Value, place: &mut Acl) -> Result<(), NoMe
 fn set_rate_limiting(
     alloc: Global,
     config: &Value,
-    place: &mut RateLimiting,
+    target: &mut RateLimiting,
 ) -> Result<(), NoMemory>
-    ensures { OnOk result (place.new ≡ rate_limiting_over (view config.now) place.old) }
+    ensures { OnOk result (target.new ≡ rate_limiting_over (view config.now) target.old) }
 {
     let table = Table::Config(PluginName::RateLimiting);
-    set_option(&mut place.second, whole_in(alloc, table, "second", config)?);
-    set_option(&mut place.minute, whole_in(alloc, table, "minute", config)?);
-    set_option(&mut place.hour, whole_in(alloc, table, "hour", config)?);
-    set_option(&mut place.day, whole_in(alloc, table, "day", config)?);
-    set(&mut place.limit_by, limit_by_at(config));
+    set_option(
+        &mut target.second,
+        whole_in(alloc, table, "second", config)?,
+    );
+    set_option(
+        &mut target.minute,
+        whole_in(alloc, table, "minute", config)?,
+    );
+    set_option(&mut target.hour, whole_in(alloc, table, "hour", config)?);
+    set_option(&mut target.day, whole_in(alloc, table, "day", config)?);
+    set(&mut target.limit_by, limit_by_at(config));
     set(
-        &mut place.hide_client_headers,
+        &mut target.hide_client_headers,
         flag_at("hide_client_headers", config),
     );
     Ok(())
 }
 
 // Sets the lists of one step of a request's change. Where neither is set, the step isn't.
-fn set_edits(alloc: Global, table: Table, step: &Value, place: &mut Edits) -> Result<(), NoMemory>
-    ensures { OnOk result (place.new ≡ edits_over table (view step.now) place.old) }
+fn set_edits(alloc: Global, table: Table, step: &Value, target: &mut Edits) -> Result<(), NoMemory>
+    ensures { OnOk result (target.new ≡ edits_over table (view step.now) target.old) }
 {
     let headers = texts_in(alloc, table, "headers", step)?;
     let querystring = texts_in(alloc, table, "querystring", step)?;
     set_if_any(
-        place,
+        target,
         Edits {
             headers,
             querystring,
@@ -188,11 +194,11 @@ fn set_edits(alloc: Global, table: Table, step: &Value, place: &mut Edits) -> Re
     Ok(())
 }
 
-fn set_if_any(place: &mut Edits, edits: Edits)
-    ensures { place.new ≡ set_edits_over edits place.old }
+fn set_if_any(target: &mut Edits, edits: Edits)
+    ensures { target.new ≡ set_edits_over edits target.old }
 {
     if !are_none(&edits) {
-        *place = edits;
+        *target = edits;
     }
 }
 
@@ -208,33 +214,51 @@ fn set_step(
     edits: EditList,
     name: &str,
     config: &Value,
-    place: &mut Edits,
+    target: &mut Edits,
 ) -> Result<(), NoMemory>
-    ensures { OnOk result (place.new ≡ edits_over (RequestEdits edits) (inside name.now (view config.now)) place.old) }
+    ensures { OnOk result (target.new ≡ edits_over (RequestEdits edits) (inside name.now (view config.now)) target.old) }
 {
     let null = Value::Null;
     let step = member_or(name, config, &null);
-    set_edits(alloc, Table::RequestEdits(edits), step, place)
+    set_edits(alloc, Table::RequestEdits(edits), step, target)
 }
 
 fn set_request_transformer(
     alloc: Global,
     config: &Value,
-    place: &mut RequestTransformer,
+    target: &mut RequestTransformer,
 ) -> Result<(), NoMemory>
-    ensures { OnOk result (place.new ≡ request_transformer_over (view config.now) place.old) }
+    ensures { OnOk result (target.new ≡ request_transformer_over (view config.now) target.old) }
 {
-    set_step(alloc, EditList::Remove, "remove", config, &mut place.remove)?;
-    set_step(alloc, EditList::Rename, "rename", config, &mut place.rename)?;
+    set_step(
+        alloc,
+        EditList::Remove,
+        "remove",
+        config,
+        &mut target.remove,
+    )?;
+    set_step(
+        alloc,
+        EditList::Rename,
+        "rename",
+        config,
+        &mut target.rename,
+    )?;
     set_step(
         alloc,
         EditList::Replace,
         "replace",
         config,
-        &mut place.replace,
+        &mut target.replace,
     )?;
-    set_step(alloc, EditList::Add, "add", config, &mut place.add)?;
-    set_step(alloc, EditList::Append, "append", config, &mut place.append)?;
+    set_step(alloc, EditList::Add, "add", config, &mut target.add)?;
+    set_step(
+        alloc,
+        EditList::Append,
+        "append",
+        config,
+        &mut target.append,
+    )?;
     Ok(())
 }
 
@@ -244,14 +268,14 @@ fn set_header_edits(
     edits: EditList,
     name: &str,
     config: &Value,
-    place: &mut List<Text>,
+    target: &mut List<Text>,
 ) -> Result<(), NoMemory>
-    ensures { OnOk result (place.new ≡ header_edits_over (ResponseEdits edits) (inside name.now (view config.now)) place.old) }
+    ensures { OnOk result (target.new ≡ header_edits_over (ResponseEdits edits) (inside name.now (view config.now)) target.old) }
 {
     let null = Value::Null;
     let step = member_or(name, config, &null);
     set_list(
-        place,
+        target,
         texts_in(alloc, Table::ResponseEdits(edits), "headers", step)?,
     );
     Ok(())
@@ -260,47 +284,65 @@ fn set_header_edits(
 fn set_response_transformer(
     alloc: Global,
     config: &Value,
-    place: &mut ResponseTransformer,
+    target: &mut ResponseTransformer,
 ) -> Result<(), NoMemory>
-    ensures { OnOk result (place.new ≡ response_transformer_over (view config.now) place.old) }
+    ensures { OnOk result (target.new ≡ response_transformer_over (view config.now) target.old) }
 {
-    set_header_edits(alloc, EditList::Remove, "remove", config, &mut place.remove)?;
-    set_header_edits(alloc, EditList::Rename, "rename", config, &mut place.rename)?;
+    set_header_edits(
+        alloc,
+        EditList::Remove,
+        "remove",
+        config,
+        &mut target.remove,
+    )?;
+    set_header_edits(
+        alloc,
+        EditList::Rename,
+        "rename",
+        config,
+        &mut target.rename,
+    )?;
     set_header_edits(
         alloc,
         EditList::Replace,
         "replace",
         config,
-        &mut place.replace,
+        &mut target.replace,
     )?;
-    set_header_edits(alloc, EditList::Add, "add", config, &mut place.add)?;
-    set_header_edits(alloc, EditList::Append, "append", config, &mut place.append)?;
+    set_header_edits(alloc, EditList::Add, "add", config, &mut target.add)?;
+    set_header_edits(
+        alloc,
+        EditList::Append,
+        "append",
+        config,
+        &mut target.append,
+    )?;
     Ok(())
 }
 
-fn set_termination(alloc: Global, config: &Value, place: &mut Termination) -> Result<(), NoMemory>
-    ensures { OnOk result (place.new ≡ termination_over (view config.now) place.old) }
+fn set_termination(alloc: Global, config: &Value, target: &mut Termination) -> Result<(), NoMemory>
+    ensures { OnOk result (target.new ≡ termination_over (view config.now) target.old) }
 {
     let table = Table::Config(PluginName::RequestTermination);
     set(
-        &mut place.status_code,
+        &mut target.status_code,
         narrow(whole_in(alloc, table, "status_code", config)?),
     );
-    set_reply(alloc, config, place)
+    set_reply(alloc, config, target)
 }
 
 // Apart from the status: a short proof.
-fn set_reply(alloc: Global, config: &Value, place: &mut Termination) -> Result<(), NoMemory>
-    ensures { OnOk result (place.new ≡ reply_over (view config.now) place.old) }
+fn set_reply(alloc: Global, config: &Value, target: &mut Termination) -> Result<(), NoMemory>
+    ensures { OnOk result (target.new ≡ reply_over (view config.now) target.old) }
 {
     let table = Table::Config(PluginName::RequestTermination);
     set_option(
-        &mut place.message,
+        &mut target.message,
         text_in(alloc, table, "message", config)?,
     );
-    set_option(&mut place.body, text_in(alloc, table, "body", config)?);
+    set_option(&mut target.body, text_in(alloc, table, "body", config)?);
     set_option(
-        &mut place.content_type,
+        &mut target.content_type,
         text_in(alloc, table, "content_type", config)?,
     );
     Ok(())

@@ -1,14 +1,20 @@
-//! The configs that plugins have where nothing is set (Kong's page of each plugin).
+//! The configs that plugins have where nothing is set: the defaults of the tables of their fields, and
+//! nothing where a table has none.
 
-ghost use Rattle.std.specs.Prelude.{◌≡◌, [], ◌∷◌, ◌++◌, IfOk, OnOk, map};
-ghost use Rattle.kg_row_making.specs.FinishedConfigs.{default_config, default_cors, default_key_auth, default_request_transformer, default_response_transformer, no_edits};
+ghost use Rattle.std.specs.Prelude.{◌≡◌, IfOk};
+ghost use Rattle.kg_row_types.specs.declared.config.Config.TheVariants as config_of;
+ghost use Rattle.kg_row_making.specs.FinishedConfigs.{default_acl, default_basic_auth, default_config, default_cors, default_ip_restriction, default_key_auth, default_rate_limiting, default_request_transformer, default_response_transformer, default_size_limit, default_termination, no_edits};
 
+use kg_field_tables::default_value::{
+    default_flag, default_limit_by, default_number, default_size_unit, default_texts, default_whole,
+};
+use kg_field_tables::table::Table;
 use kg_row_types::config::{
-    Acl, BasicAuth, Config, Cors, Edits, IpRestriction, KeyAuth, LimitBy, RateLimiting,
-    RequestTransformer, ResponseTransformer, SizeLimit, SizeUnit, Termination,
+    Acl, BasicAuth, Config, Cors, Edits, IpRestriction, KeyAuth, RateLimiting, RequestTransformer,
+    ResponseTransformer, SizeLimit, Termination,
 };
 use kg_row_types::plugin::PluginName;
-use kg_text::{List, NoMemory, Text};
+use kg_text::{List, NoMemory};
 use std::alloc::Global;
 
 /// The config that a plugin has where nothing is set.
@@ -16,85 +22,99 @@ pub fn default_config(alloc: Global, name: PluginName) -> Result<Config, NoMemor
     ensures { IfOk result (λ config. config ≡ default_config name) }
 {
     match name {
-        PluginName::Cors => Ok(Config::Cors(default_cors(alloc)?)),
-        PluginName::KeyAuth => Ok(Config::KeyAuth(default_key_auth(alloc)?)),
-        PluginName::BasicAuth => Ok(Config::BasicAuth(BasicAuth {
-            hide_credentials: false,
-            anonymous: None,
-        })),
-        PluginName::IpRestriction => Ok(Config::IpRestriction(IpRestriction {
-            allow: List::new(alloc),
-            deny: List::new(alloc),
-        })),
-        PluginName::RequestSizeLimiting => Ok(Config::RequestSizeLimiting(SizeLimit {
-            allowed_payload_size: 128,
-            size_unit: SizeUnit::Megabytes,
-        })),
-        PluginName::Acl => Ok(Config::Acl(Acl {
-            allow: List::new(alloc),
-            deny: List::new(alloc),
-            hide_groups_header: false,
-        })),
-        PluginName::RateLimiting => Ok(Config::RateLimiting(RateLimiting {
-            second: None,
-            minute: None,
-            hour: None,
-            day: None,
-            limit_by: LimitBy::Consumer,
-            hide_client_headers: false,
-        })),
-        PluginName::RequestTransformer => Ok(Config::RequestTransformer(default_request_transformer(
-            alloc,
-        ))),
-        PluginName::ResponseTransformer => Ok(Config::ResponseTransformer(
-            default_response_transformer(alloc),
-        )),
-        PluginName::RequestTermination => Ok(Config::RequestTermination(Termination {
-            status_code: 503,
-            message: None,
-            body: None,
-            content_type: None,
-        })),
+        PluginName::Cors => default_cors(alloc),
+        PluginName::KeyAuth => default_key_auth(alloc),
+        PluginName::BasicAuth => Ok(default_basic_auth()),
+        PluginName::IpRestriction => Ok(default_ip_restriction(alloc)),
+        PluginName::RequestSizeLimiting => Ok(default_size_limit()),
+        PluginName::Acl => Ok(default_acl(alloc)),
+        PluginName::RateLimiting => Ok(default_rate_limiting()),
+        PluginName::RequestTransformer => Ok(default_request_transformer(alloc)),
+        PluginName::ResponseTransformer => Ok(default_response_transformer(alloc)),
+        PluginName::RequestTermination => Ok(default_termination()),
     }
 }
 
-fn default_cors(alloc: Global) -> Result<Cors, NoMemory>
-    ensures { IfOk result (λ config. config ≡ default_cors) }
+fn default_cors(alloc: Global) -> Result<Config, NoMemory>
+    ensures { IfOk result (λ config. config ≡ config_of.Cors default_cors) }
 {
-    let mut methods = List::new(alloc);
-    // in two calls: a short proof
-    add_texts(
-        alloc,
-        &mut methods,
-        &["GET", "HEAD", "PUT", "PATCH", "POST"],
-    )?;
-    add_texts(
-        alloc,
-        &mut methods,
-        &["DELETE", "OPTIONS", "TRACE", "CONNECT"],
-    )?;
-    Ok(Cors {
+    let table = Table::Config(PluginName::Cors);
+    let methods = default_texts(alloc, table, "methods")?;
+    Ok(Config::Cors(Cors {
         origins: List::new(alloc),
         methods,
         headers: List::new(alloc),
         exposed_headers: List::new(alloc),
-        credentials: false,
-        max_age: None,
-        preflight_continue: false,
+        credentials: default_flag(table, "credentials"),
+        max_age: default_number(table, "max_age"),
+        preflight_continue: default_flag(table, "preflight_continue"),
+    }))
+}
+
+fn default_key_auth(alloc: Global) -> Result<Config, NoMemory>
+    ensures { IfOk result (λ config. config ≡ config_of.KeyAuth default_key_auth) }
+{
+    let table = Table::Config(PluginName::KeyAuth);
+    let key_names = default_texts(alloc, table, "key_names")?;
+    Ok(Config::KeyAuth(KeyAuth {
+        key_names,
+        key_in_header: default_flag(table, "key_in_header"),
+        key_in_query: default_flag(table, "key_in_query"),
+        hide_credentials: default_flag(table, "hide_credentials"),
+        anonymous: None,
+    }))
+}
+
+fn default_basic_auth() -> Config
+    ensures { result ≡ config_of.BasicAuth default_basic_auth }
+{
+    let table = Table::Config(PluginName::BasicAuth);
+    Config::BasicAuth(BasicAuth {
+        hide_credentials: default_flag(table, "hide_credentials"),
+        anonymous: None,
     })
 }
 
-fn default_key_auth(alloc: Global) -> Result<KeyAuth, NoMemory>
-    ensures { IfOk result (λ config. config ≡ default_key_auth) }
+fn default_ip_restriction(alloc: Global) -> Config
+    ensures { result ≡ config_of.IpRestriction default_ip_restriction }
 {
-    let mut key_names = List::new(alloc);
-    key_names.push(Text::from_str(alloc, "apikey")?)?;
-    Ok(KeyAuth {
-        key_names,
-        key_in_header: true,
-        key_in_query: true,
-        hide_credentials: false,
-        anonymous: None,
+    Config::IpRestriction(IpRestriction {
+        allow: List::new(alloc),
+        deny: List::new(alloc),
+    })
+}
+
+fn default_size_limit() -> Config
+    ensures { result ≡ config_of.RequestSizeLimiting default_size_limit }
+{
+    let table = Table::Config(PluginName::RequestSizeLimiting);
+    Config::RequestSizeLimiting(SizeLimit {
+        allowed_payload_size: default_whole(table, "allowed_payload_size"),
+        size_unit: default_size_unit(table, "size_unit"),
+    })
+}
+
+fn default_acl(alloc: Global) -> Config
+    ensures { result ≡ config_of.Acl default_acl }
+{
+    Config::Acl(Acl {
+        allow: List::new(alloc),
+        deny: List::new(alloc),
+        hide_groups_header: default_flag(Table::Config(PluginName::Acl), "hide_groups_header"),
+    })
+}
+
+fn default_rate_limiting() -> Config
+    ensures { result ≡ config_of.RateLimiting default_rate_limiting }
+{
+    let table = Table::Config(PluginName::RateLimiting);
+    Config::RateLimiting(RateLimiting {
+        second: default_number(table, "second"),
+        minute: default_number(table, "minute"),
+        hour: default_number(table, "hour"),
+        day: default_number(table, "day"),
+        limit_by: default_limit_by(table, "limit_by"),
+        hide_client_headers: default_flag(table, "hide_client_headers"),
     })
 }
 
@@ -107,36 +127,38 @@ fn no_edits(alloc: Global) -> Edits
     }
 }
 
-fn default_request_transformer(alloc: Global) -> RequestTransformer
-    ensures { result ≡ default_request_transformer }
+fn default_request_transformer(alloc: Global) -> Config
+    ensures { result ≡ config_of.RequestTransformer default_request_transformer }
 {
-    RequestTransformer {
+    Config::RequestTransformer(RequestTransformer {
         remove: no_edits(alloc),
         rename: no_edits(alloc),
         replace: no_edits(alloc),
         add: no_edits(alloc),
         append: no_edits(alloc),
-    }
+    })
 }
 
-fn default_response_transformer(alloc: Global) -> ResponseTransformer
-    ensures { result ≡ default_response_transformer }
+fn default_response_transformer(alloc: Global) -> Config
+    ensures { result ≡ config_of.ResponseTransformer default_response_transformer }
 {
-    ResponseTransformer {
+    Config::ResponseTransformer(ResponseTransformer {
         remove: List::new(alloc),
         rename: List::new(alloc),
         replace: List::new(alloc),
         add: List::new(alloc),
         append: List::new(alloc),
-    }
+    })
 }
 
-// Adds copies of the texts at the end.
-fn add_texts(alloc: Global, list: &mut List<Text>, texts: &[&str]) -> Result<(), NoMemory>
-    ensures { OnOk result (list.new ≡ list.old ++ map (λ text. text.now) texts.now) }
+fn default_termination() -> Config
+    ensures { result ≡ config_of.RequestTermination default_termination }
 {
-    for text in texts {
-        list.push(Text::from_str(alloc, text)?)?;
-    }
-    Ok(())
+    let table = Table::Config(PluginName::RequestTermination);
+    Config::RequestTermination(Termination {
+        status_code: default_whole(table, "status_code") as u16,
+        message: None,
+        body: None,
+        content_type: None,
+    })
 }

@@ -7,32 +7,32 @@ ghost use Rattle.kg_row_making.specs.FinishedConfigs.{list_over};
 
 use kg_text::List;
 
-/// Writes the value over the place, if there is one.
-pub fn set<T: Drop>(place: &mut T, value: Option<T>)
-    ensures { place.new ≡ unwrap_or value place.old }
+/// Writes the value over the target, if there is one.
+pub fn set<T: Drop>(target: &mut T, value: Option<T>)
+    ensures { target.new ≡ unwrap_or value target.old }
 {
     match value {
-        Some(value) => *place = value,
+        Some(value) => *target = value,
         None => {}
     }
 }
 
-/// Writes the value over a place that may hold none, if there is one.
-pub fn set_option<T: Drop>(place: &mut Option<T>, value: Option<T>)
-    ensures { place.new ≡ option_or value place.old }
+/// Writes the value over a target that may hold none, if there is one.
+pub fn set_option<T: Drop>(target: &mut Option<T>, value: Option<T>)
+    ensures { target.new ≡ option_or value target.old }
 {
     match value {
-        Some(value) => *place = Some(value),
+        Some(value) => *target = Some(value),
         None => {}
     }
 }
 
-/// Writes the list over the place, if it has members.
-pub fn set_list<T: Drop>(place: &mut List<T>, list: List<T>)
-    ensures { place.new ≡ list_over list place.old }
+/// Writes the list over the target, if it has members.
+pub fn set_list<T: Drop>(target: &mut List<T>, list: List<T>)
+    ensures { target.new ≡ list_over list target.old }
 {
     if !list.as_slice().is_empty() {
-        *place = list;
+        *target = list;
     }
 }
 
