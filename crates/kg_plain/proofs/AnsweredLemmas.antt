@@ -14,7 +14,8 @@ use Rattle.kg_wire.specs.Reading.{ReaderState, Takes, Grows, Refuses, IsEnded, I
 use Rattle.kg_wire.specs.Refusals.{IsBad, IsCut}
 use Rattle.kg_wire.proofs.RefusalLemmas.{bad_stays}
 use Rattle.kg_wire.specs.declared.reader.ReadError.TheVariants.{Bad as BadMessage, Cut as CutMessage}
-use Rattle.kg_plain.specs.Answered.{Answered, AnsweredOn, AnswersAll, AnswersFront, AnswersNext, EndsAhead, EndsAt, IsReplied, StopsNext, asked_end}
+use Rattle.kg_plain.specs.Answered.{Answered, AnsweredOn, AnswersAll, AnswersFront, EndsAhead}
+use Rattle.kg_plain.specs.AnsweringSteps.{AnswersNext, EndsAt, IsReplied, StopsNext, asked_end}
 use Rattle.kg_plain.specs.Fronts.{IsFront}
 use Rattle.kg_plain.specs.Plain.{bad_request_text, reply_to}
 use Rattle.kg_plain.specs.Replies.{BeginsReply, StopsIn, asks, local_address, most_requests, texts}

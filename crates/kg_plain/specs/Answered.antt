@@ -1,63 +1,12 @@
--- Machinery for proofs: how far the requests of a connection are answered while it is read.
-use Rattle.std.specs.Prelude.{◌≡◌, ℕ, ◌+◌, ◌<◌, ◌≤◌, ◌==◌, Bool, true, false, List, [], ◌∷◌, ◌++◌, length, Option, Some, None, if◌then◌else◌}
+-- What a connection gets, while it is read: which of its requests are answered, what is written, and how the
+-- answering ends or is cut short (this project's own: docs/BEHAVIOUR.md, "The dry run").
+use Rattle.std.specs.Prelude.{◌≡◌, ℕ, ◌<◌, ◌≤◌, List, ◌++◌, length, Option, Some}
 use Rattle.std.specs.List.{flat_map, AllByRecursion}
 use Rattle.kg_outside.specs.Moves.{with_front, with_end}
 use Rattle.kg_router.specs.RouterRows.{RouterRows}
-use Rattle.kg_wire.specs.Messages.{Message, IsRequest, print_message, request_of}
-use Rattle.kg_wire.specs.Refusals.{IsBad, IsCut}
-use Rattle.kg_plain.specs.Plain.{reply_to}
-use Rattle.kg_plain.specs.Replies.{EndsSo, GoOn, StopsIn, asks, last_text, local_address, most_requests, texts}
+use Rattle.kg_wire.specs.Messages.{Message, IsRequest, print_message}
+use Rattle.kg_plain.specs.Replies.{EndsSo, GoOn, StopsIn, last_text, most_requests, texts}
 use Rattle.kg_plain.specs.declared.answers.End.{End}
-use Rattle.kg_plain.specs.declared.answers.End.TheVariants.{Closed, Asked, Spent, Bad, Cut}
-
--- ---- the next message
-
--- the end, where a request asks for it
-abbrev pub asked_end : Bool → Option End
-asked_end asked = if asked then Some Asked else None
-
--- the next request was read and got its reply, behind so many replies, and the clock was read once. It stood
--- between these places of the bytes
-pub record IsReplied (rows : RouterRows) (Read : List ℕ → Type 0) (answered at_before at_now : ℕ) (ahead_before ahead_now written_before written_now : Option (List ℕ))
-    (asked : Bool) : Type 0 where
-  pub message : Message
-  pub time : ℕ
-  pub is : IsRequest message
-  pub asking : asks message ≡ asked
-  pub read : Read (time ∷ [])
-  pub next : ahead_before ≡ with_front (print_message message) ahead_now
-  pub at : at_now ≡ at_before + length (print_message message)
-  pub written : written_now ≡ with_end written_before (reply_to rows (answered + 1 == most_requests) (request_of local_address message))
-
--- no request was read, the bytes ahead are so, and this was written
-pub record EndsAt (Read : List ℕ → Type 0) (Is : List ℕ → Type 0) (ahead written_before written_now : Option (List ℕ)) (end : End) : Type 0 where
-  pub read : Read []
-  pub is : (rest : List ℕ) → ahead ≡ Some rest → Is rest
-  pub written : written_now ≡ with_end written_before (last_text end)
-
--- the next message was read and answered: the connection goes on, or ends so
-abbrev pub AnswersNext : RouterRows → (List ℕ → Type 0) → ℕ → ℕ → ℕ → Option (List ℕ) → Option (List ℕ) → Option (List ℕ) → Option (List ℕ) → Option End → Type 0
-AnswersNext rows Read answered at_before at_now ahead_before ahead_now written_before written_now None =
-    IsReplied rows Read answered at_before at_now ahead_before ahead_now written_before written_now false
-AnswersNext rows Read answered at_before at_now ahead_before ahead_now written_before written_now (Some Asked) =
-    IsReplied rows Read answered at_before at_now ahead_before ahead_now written_before written_now true
-AnswersNext rows Read answered at_before at_now ahead_before ahead_now written_before written_now (Some Closed) =
-    EndsAt Read (λ rest. rest ≡ []) ahead_before written_before written_now Closed
-AnswersNext rows Read answered at_before at_now ahead_before ahead_now written_before written_now (Some Spent) = ⊥
-AnswersNext rows Read answered at_before at_now ahead_before ahead_now written_before written_now (Some (Bad at)) =
-    (at ≡ at_before) × EndsAt Read IsBad ahead_before written_before written_now (Bad at)
-AnswersNext rows Read answered at_before at_now ahead_before ahead_now written_before written_now (Some (Cut have)) =
-    EndsAt Read (λ rest. IsCut rest × (have ≡ length rest)) ahead_before written_before written_now (Cut have)
-
--- the answering was cut short at the next message, behind so many replies
-pub record StopsNext (rows : RouterRows) (Read : List ℕ → Type 0) (answered : ℕ) (ahead written_before written_now : Option (List ℕ)) : Type 0 where
-  pub times : List ℕ
-  pub read : Read times
-  pub part : List ℕ
-  pub stops : (rest : List ℕ) → ahead ≡ Some rest → StopsIn rows answered (answered + length times) rest part
-  pub written : written_now ≡ with_end written_before part
-
--- ---- all messages
 
 -- these requests were read, each got its reply, and the clock was read once for each
 pub record Answered (rows : RouterRows) (Read : List ℕ → Type 0) (ahead_before ahead_now written_before written_now : Option (List ℕ))

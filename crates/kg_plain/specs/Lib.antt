@@ -1,4 +1,5 @@
 pub mod Answered
+pub mod AnsweringSteps
 pub mod Echo
 pub mod Fronts
 pub mod Plain

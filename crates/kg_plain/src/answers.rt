@@ -4,7 +4,8 @@ ghost use Rattle.std.specs.Prelude.{◌≡◌, ◌<◌, ◌+◌, ◌==◌, ℕ, 
 ghost use Rattle.kg_outside.specs.Causes.{Rose};
 ghost use Rattle.kg_outside.specs.Moves.{with_end, with_front};
 ghost use Rattle.kg_print.specs.Connection.{asks_for_end};
-ghost use Rattle.kg_plain.specs.Answered.{AnswersAll, AnswersFront, AnswersNext, StopsNext, asked_end};
+ghost use Rattle.kg_plain.specs.Answered.{AnswersAll, AnswersFront};
+ghost use Rattle.kg_plain.specs.AnsweringSteps.{AnswersNext, StopsNext, asked_end};
 ghost use Rattle.kg_plain.specs.Fronts.{IsFront};
 ghost use Rattle.kg_plain.specs.Plain.{bad_request_text, reply_to};
 ghost use Rattle.kg_plain.specs.Replies.{local_address, most_requests};
