@@ -24,7 +24,7 @@ use Rattle.kg_rows.specs.declared.draft.Refusal.TheVariants.{NotFound}
 use Rattle.kg_row_queries.specs.declared.collection.Collection.{Collection}
 use Rattle.kg_row_making.specs.Bases.{New}
 use Rattle.kg_declare.specs.Histories.{InsertsValidRow}
-use Rattle.kg_declare.specs.Inserting.{InsertsNewRow, IsConsistent, IsDecided, IsInsertion, decided, progress_at}
+use Rattle.kg_declare.specs.Inserting.{InsertsNewRow, IsConsistent, IsDecided, IsInsertion, accepted_at, decided}
 use Rattle.kg_declare.specs.declared.progress.Made.{Made}
 
 -- ---- what is decided of an insertion
@@ -97,9 +97,9 @@ inserts_if_new rows (command.Delete kind id) is valid = absurd is
 module _ (limit : ℕ) (old new : Made) (draft : Draft) (done : Command) (decided_so : IsDecided limit old.rows draft done)
     (rows : new.rows ≡ changed done old.rows) (commands : new.commands ≡ old.commands ++ done ∷ []) where
   -- what a step means, it leaves
-  pub step_leaves : (before drawn : ℕ) → decided (progress_at old before) drawn (decision old.rows draft limit) ≡ Ok (progress_at new drawn)
+  pub step_leaves : (before drawn : ℕ) → decided (accepted_at old before) drawn (decision old.rows draft limit) ≡ Ok (accepted_at new drawn)
   step_leaves before drawn =
-      ap (decided (progress_at old before) drawn) decided_so.decides
+      ap (decided (accepted_at old before) drawn) decided_so.decides
       ∙ ap₂ (λ rows commands. Ok (record { rows = rows; commands = commands; drawn = drawn })) (sym rows) (sym commands)
 
   -- and the rows so far are again those after the commands so far

@@ -12,7 +12,7 @@ use Rattle.kg_row_values.specs.Rows.{rows_after}
 use Rattle.kg_row_values.specs.declared.command.Command.{Command}
 use Rattle.kg_rows.specs.declared.draft.Refusal.{Refusal}
 use Rattle.kg_declare.specs.Inserting.{decided, start, with_row, with_rows}
-use Rattle.kg_declare.specs.Outcome.{Identified, Progress, added, all_added, answered, draws_id, extended, next, own_id, parent_of, row_violations, violated, with_ids}
+use Rattle.kg_declare.specs.Outcome.{Accepted, Identified, added, all_added, answered, draws_id, extended, next, own_id, parent_of, row_violations, violated, with_ids}
 use Rattle.kg_declare.specs.RefusalBody.{refusal_response}
 use Rattle.kg_declare.proofs.HistoryLemmas.{rows_from-push}
 use Rattle.kg_declared_rows.specs.Rows.{Row}
@@ -45,7 +45,7 @@ count-yes {X} p xs x passes =
 
 module _ (now limit : ℕ) (draws : List (List ℕ)) where
   -- the rows and commands so far, when ids were drawn for these rows
-  abbrev at : List Row → List Command → Progress
+  abbrev at : List Row → List Command → Accepted
   at earlier commands = record { rows = rows_after commands; commands = commands; drawn = count_by draws_id earlier }
 
   -- the ids that are left

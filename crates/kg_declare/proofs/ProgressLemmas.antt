@@ -15,10 +15,10 @@ use Rattle.kg_field_rules.specs.Rules.{BrokenRule, in_order, tell}
 use Rattle.kg_bodies.specs.Settings.{id_at}
 use Rattle.kg_field_rules.specs.declared.rule.Rule.TheVariants.{WrongType}
 use Rattle.kg_declared_rows.specs.Violations.{own_violations}
-use Rattle.kg_declare.specs.Inserting.{IsConsistent, IsIdOf, IsUnread, Prepares, Refuses, TellsRefusal, TellsViolations, decided, identified, inserted, progress_at, start, with_row, with_rows}
-use Rattle.kg_declare.specs.Outcome.{Progress, Refused, all_added, answered, declaration_of, declared, drawn_for, next, outcome, own_id, parent_of, row_violations, unread, violated, with_ids, wrong_violations}
+use Rattle.kg_declare.specs.Inserting.{IsConsistent, IsIdOf, IsUnread, Prepares, Refuses, TellsRefusal, TellsViolations, accepted_at, decided, identified, inserted, start, with_row, with_rows}
+use Rattle.kg_declare.specs.Outcome.{Accepted, Refused, all_added, answered, declaration_of, declared, drawn_for, next, outcome, own_id, parent_of, row_violations, unread, violated, with_ids, wrong_violations}
 use Rattle.kg_declared_rows.specs.Rows.{Row}
-use Rattle.kg_declare.specs.Steps.{IsRefusedAt, progress_after}
+use Rattle.kg_declare.specs.Steps.{IsRefusedAt, accepted_after}
 use Rattle.kg_declare.specs.declared.error.DeclareError.{DeclareError}
 use Rattle.kg_declare.specs.declared.error.DeclareError.TheVariants as error
 use Rattle.kg_declare.specs.declared.progress.Made.{Made}
@@ -63,8 +63,8 @@ one_more : (n : ℕ) → n + 1 ≡ suc n
 one_more n = omega arith
 
 identified_as : (front drawn more : List (List ℕ)) (now limit : ℕ) (row : Row) (old : Made) (set : Option ℕ) (id : ℕ) → IsIdOf set drawn id
-    → identified (front ++ drawn ++ more) now limit row set (progress_at old (length front))
-    ≡ inserted now limit row id (length front + length drawn) (progress_at old (length front))
+    → identified (front ++ drawn ++ more) now limit row set (accepted_at old (length front))
+    ≡ inserted now limit row id (length front + length drawn) (accepted_at old (length front))
 identified_as front drawn more now limit row old (Some set) id is =
     let n : length front + length drawn ≡ length front = ap (λ ids. length front + length ids) is.0 ∙ omega arith in
     rw (n, is.1) refl
@@ -76,49 +76,49 @@ identified_as front drawn more now limit row old None id is =
 -- a row without violations is inserted with its id
 pub row_step : (front drawn more : List (List ℕ)) (now limit : ℕ) (row : Row) (old : Made) (id : ℕ) → row_violations row ≡ []
     → IsIdOf (id_at (object row.members)) drawn id
-    → with_row (front ++ drawn ++ more) now limit row (progress_at old (length front))
-    ≡ inserted now limit row id (length front + length drawn) (progress_at old (length front))
+    → with_row (front ++ drawn ++ more) now limit row (accepted_at old (length front))
+    ≡ inserted now limit row id (length front + length drawn) (accepted_at old (length front))
 unfolding with_row
 row_step front drawn more now limit row old id none is = rw none (identified_as front drawn more now limit row old (id_at (object row.members)) id is)
 
 -- ---- ids that are drawn
 
 -- so many are drawn for what is decided
-drawn_decided : (progress : Progress) (drawn : ℕ) (answer : Result Command Refusal) → drawn_for (decided progress drawn answer) ≡ drawn
-drawn_decided progress drawn (Ok command) = refl
-drawn_decided progress drawn (Err refusal) = refl
+drawn_decided : (accepted : Accepted) (drawn : ℕ) (answer : Result Command Refusal) → drawn_for (decided accepted drawn answer) ≡ drawn
+drawn_decided accepted drawn (Ok command) = refl
+drawn_decided accepted drawn (Err refusal) = refl
 
 -- no row takes an id back
-identified_draws : (draws : List (List ℕ)) (now limit : ℕ) (row : Row) (set : Option ℕ) (progress : Progress)
-    → progress.drawn ≤ drawn_for (identified draws now limit row set progress)
-identified_draws draws now limit row (Some id) progress =
-    let same = drawn_decided progress progress.drawn (insertion progress.rows row.kind (parent_of progress.commands row.parent) (object row.members) id now limit) in
+identified_draws : (draws : List (List ℕ)) (now limit : ℕ) (row : Row) (set : Option ℕ) (accepted : Accepted)
+    → accepted.drawn ≤ drawn_for (identified draws now limit row set accepted)
+identified_draws draws now limit row (Some id) accepted =
+    let same = drawn_decided accepted accepted.drawn (insertion accepted.rows row.kind (parent_of accepted.commands row.parent) (object row.members) id now limit) in
     omega arith
-identified_draws draws now limit row None progress =
-    let same = drawn_decided progress (suc progress.drawn) (insertion progress.rows row.kind (parent_of progress.commands row.parent) (object row.members) (drawn_id (get_or draws progress.drawn [])) now limit) in
+identified_draws draws now limit row None accepted =
+    let same = drawn_decided accepted (suc accepted.drawn) (insertion accepted.rows row.kind (parent_of accepted.commands row.parent) (object row.members) (drawn_id (get_or draws accepted.drawn [])) now limit) in
     omega arith
 
-row_draws : (draws : List (List ℕ)) (now limit : ℕ) (row : Row) (progress : Progress) → progress.drawn ≤ drawn_for (with_row draws now limit row progress)
+row_draws : (draws : List (List ℕ)) (now limit : ℕ) (row : Row) (accepted : Accepted) → accepted.drawn ≤ drawn_for (with_row draws now limit row accepted)
 unfolding with_row
-row_draws draws now limit row progress = by_test (length (row_violations row) == 0)
+row_draws draws now limit row accepted = by_test (length (row_violations row) == 0)
   where
     by_test : (unbroken : Bool)
-        → progress.drawn ≤ drawn_for (cond unbroken (identified draws now limit row (own_id row) progress) (Err (violated (row_violations row) progress.drawn)))
-    by_test true = identified_draws draws now limit row (own_id row) progress
+        → accepted.drawn ≤ drawn_for (cond unbroken (identified draws now limit row (own_id row) accepted) (Err (violated (row_violations row) accepted.drawn)))
+    by_test true = identified_draws draws now limit row (own_id row) accepted
     by_test false = omega arith
 
-rows_draw : (draws : List (List ℕ)) (now limit : ℕ) (rows : List Row) (progress : Progress) → progress.drawn ≤ drawn_for (with_rows draws now limit rows progress)
-rows_draw draws now limit [] progress = omega arith
-rows_draw draws now limit (row ∷ rows) progress =
-    by_step (with_row draws now limit row progress) (row_draws draws now limit row progress) (rows_draw draws now limit rows)
+rows_draw : (draws : List (List ℕ)) (now limit : ℕ) (rows : List Row) (accepted : Accepted) → accepted.drawn ≤ drawn_for (with_rows draws now limit rows accepted)
+rows_draw draws now limit [] accepted = omega arith
+rows_draw draws now limit (row ∷ rows) accepted =
+    by_step (with_row draws now limit row accepted) (row_draws draws now limit row accepted) (rows_draw draws now limit rows)
   where
-    by_step : (step : Result Progress Refused) → progress.drawn ≤ drawn_for step
-        → ((done : Progress) → done.drawn ≤ drawn_for (with_rows draws now limit rows done))
-        → progress.drawn ≤ drawn_for (next (with_rows draws now limit rows) step)
+    by_step : (step : Result Accepted Refused) → accepted.drawn ≤ drawn_for step
+        → ((done : Accepted) → done.drawn ≤ drawn_for (with_rows draws now limit rows done))
+        → accepted.drawn ≤ drawn_for (next (with_rows draws now limit rows) step)
     by_step (Ok done) here later = let more = later done in omega arith
     by_step (Err refused) here later = here
 
-rows_draw_more : (draws : List (List ℕ)) (now limit : ℕ) (rows : List Row) (step : Result Progress Refused)
+rows_draw_more : (draws : List (List ℕ)) (now limit : ℕ) (rows : List Row) (step : Result Accepted Refused)
     → drawn_for step ≤ drawn_for (next (with_rows draws now limit rows) step)
 rows_draw_more draws now limit rows (Ok done) = rows_draw draws now limit rows done
 rows_draw_more draws now limit rows (Err refused) = omega arith
@@ -126,11 +126,11 @@ rows_draw_more draws now limit rows (Err refused) = omega arith
 -- ---- refusals
 
 -- a row with violations is refused
-pub row_refused : (draws : List (List ℕ)) (now limit : ℕ) (row : Row) (progress : Progress) (e : DeclareError) → TellsViolations e (row_violations row)
-    → IsRefusedAt e (with_row draws now limit row progress) progress.drawn
+pub row_refused : (draws : List (List ℕ)) (now limit : ℕ) (row : Row) (accepted : Accepted) (e : DeclareError) → TellsViolations e (row_violations row)
+    → IsRefusedAt e (with_row draws now limit row accepted) accepted.drawn
 unfolding with_row
-row_refused draws now limit row progress (error.Refused response) told = rw (no_violations (row_violations row) told.0, told.1) refl
-row_refused draws now limit row progress error.NoMemory told = row_draws draws now limit row progress
+row_refused draws now limit row accepted (error.Refused response) told = rw (no_violations (row_violations row) told.0, told.1) refl
+row_refused draws now limit row accepted error.NoMemory told = row_draws draws now limit row accepted
 
 -- what is refused of a draft
 pub refused_draft : (e : DecideError) (told : DeclareError) (meant : Result Command Refusal) → TellsRefusal told e → Decides {A = Command} (Err e) meant → Refuses told meant
@@ -138,10 +138,10 @@ refused_draft (decide_error.Refused refusal) (error.Refused response) meant told
 refused_draft decide_error.NoMemory (error.Refused response) meant told is = absurd told
 refused_draft e error.NoMemory meant told is = tt
 
-pub refused_at : (e : DeclareError) (progress : Progress) (drawn : ℕ) (meant : Result Command Refusal) → Refuses e meant → IsRefusedAt e (decided progress drawn meant) drawn
-refused_at (error.Refused response) progress drawn meant told =
-    ap (decided progress drawn) told.1 ∙ ap (λ reply. Err (record { response = reply; drawn = drawn })) (sym told.2)
-refused_at error.NoMemory progress drawn meant told = let same = drawn_decided progress drawn meant in omega arith
+pub refused_at : (e : DeclareError) (accepted : Accepted) (drawn : ℕ) (meant : Result Command Refusal) → Refuses e meant → IsRefusedAt e (decided accepted drawn meant) drawn
+refused_at (error.Refused response) accepted drawn meant told =
+    ap (decided accepted drawn) told.1 ∙ ap (λ reply. Err (record { response = reply; drawn = drawn })) (sym told.2)
+refused_at error.NoMemory accepted drawn meant told = let same = drawn_decided accepted drawn meant in omega arith
 
 -- ---- rows
 
@@ -149,24 +149,24 @@ refused_at error.NoMemory progress drawn meant told = let same = drawn_decided p
 pub record SoFar {S : Type 0} (draws : S → S → List (List ℕ) → Type 0) (before after : S) (old new : Made) (now limit : ℕ) (all rest : List Row) : Type 0 where
   pub drawn : List (List ℕ)
   pub moved : draws before after drawn
-  pub ahead : (more : List (List ℕ)) → with_rows (drawn ++ more) now limit all (progress_at old 0) ≡ with_rows (drawn ++ more) now limit rest (progress_at new (length drawn))
+  pub ahead : (more : List (List ℕ)) → with_rows (drawn ++ more) now limit all (accepted_at old 0) ≡ with_rows (drawn ++ more) now limit rest (accepted_at new (length drawn))
 
 pub nothing_ahead_yet : {S : Type 0} (draws : S → S → List (List ℕ) → Type 0) (before : S) (made : Made) (now limit : ℕ) (all : List Row) → draws before before [] → SoFar draws before before made made now limit all all
 nothing_ahead_yet draws before made now limit all none = record { drawn = []; moved = none; ahead = λ more. refl }
 
 -- one row more
 pub ahead_row : (drawn step more : List (List ℕ)) (now limit : ℕ) (all rest : List Row) (row : Row) (old new : Made)
-    → ((more : List (List ℕ)) → with_rows (drawn ++ more) now limit all (progress_at old 0) ≡ with_rows (drawn ++ more) now limit (row ∷ rest) (progress_at new (length drawn)))
-    → (answer : Result Progress Refused) → with_row (drawn ++ step ++ more) now limit row (progress_at new (length drawn)) ≡ answer
-    → with_rows (drawn ++ step ++ more) now limit all (progress_at old 0) ≡ next (with_rows (drawn ++ step ++ more) now limit rest) answer
+    → ((more : List (List ℕ)) → with_rows (drawn ++ more) now limit all (accepted_at old 0) ≡ with_rows (drawn ++ more) now limit (row ∷ rest) (accepted_at new (length drawn)))
+    → (answer : Result Accepted Refused) → with_row (drawn ++ step ++ more) now limit row (accepted_at new (length drawn)) ≡ answer
+    → with_rows (drawn ++ step ++ more) now limit all (accepted_at old 0) ≡ next (with_rows (drawn ++ step ++ more) now limit rest) answer
 ahead_row drawn step more now limit all rest row old new ahead answer is =
-    ap (λ draws. with_rows draws now limit all (progress_at old 0)) (append_assoc drawn step more)
+    ap (λ draws. with_rows draws now limit all (accepted_at old 0)) (append_assoc drawn step more)
     ∙ ahead (step ++ more)
-    ∙ ap (λ draws. with_rows draws now limit (row ∷ rest) (progress_at new (length drawn))) (sym (append_assoc drawn step more))
+    ∙ ap (λ draws. with_rows draws now limit (row ∷ rest) (accepted_at new (length drawn))) (sym (append_assoc drawn step more))
     ∙ ap (next (with_rows (drawn ++ step ++ more) now limit rest)) is
 
 -- a refusal at a row is one of all rows
-pub refused_later : (e : DeclareError) (draws : List (List ℕ)) (now limit : ℕ) (rest : List Row) (step all : Result Progress Refused) (n m : ℕ)
+pub refused_later : (e : DeclareError) (draws : List (List ℕ)) (now limit : ℕ) (rest : List Row) (step all : Result Accepted Refused) (n m : ℕ)
     → n ≡ m → all ≡ next (with_rows draws now limit rest) step → IsRefusedAt e step n → IsRefusedAt e all m
 refused_later (error.Refused response) draws now limit rest step all n m same later is =
     later ∙ ap (next (with_rows draws now limit rest)) is ∙ ap (λ drawn. Err (record { response = response; drawn = drawn })) same
@@ -205,10 +205,10 @@ unbroken_inserted line rows now limit draws ready =
     declared_rows = rw (ready.read, ready.unbroken, ready.rows) refl
 
 -- beginning with no rows
-pub from_start : (draws : List (List ℕ)) (now limit : ℕ) (rows : List Row) (old : Made) (answer : Result Progress Refused) → progress_at old 0 ≡ start
-    → with_rows draws now limit rows (progress_at old 0) ≡ answer → with_rows draws now limit rows start ≡ answer
+pub from_start : (draws : List (List ℕ)) (now limit : ℕ) (rows : List Row) (old : Made) (answer : Result Accepted Refused) → accepted_at old 0 ≡ start
+    → with_rows draws now limit rows (accepted_at old 0) ≡ answer → with_rows draws now limit rows start ≡ answer
 from_start draws now limit rows old answer begun is = ap (with_rows draws now limit rows) (sym begun) ∙ is
 
 -- the rows are those after the commands
-pub at_commands : (limit : ℕ) (made : Made) (drawn : ℕ) → IsConsistent limit made → progress_at made drawn ≡ progress_after made.commands drawn
+pub at_commands : (limit : ℕ) (made : Made) (drawn : ℕ) → IsConsistent limit made → accepted_at made drawn ≡ accepted_after made.commands drawn
 at_commands limit made drawn is = ap (λ rows. record { rows = rows; commands = made.commands; drawn = drawn }) is.rows

@@ -20,7 +20,7 @@ use Rattle.kg_rows.specs.declared.draft.Draft.{Draft}
 use Rattle.kg_rows.specs.declared.draft.Draft.TheVariants as draft
 use Rattle.kg_rows.specs.declared.draft.Refusal.{Refusal}
 use Rattle.kg_declare.specs.Histories.{InsertsValidRow}
-use Rattle.kg_declare.specs.Outcome.{Progress, Refused, declaration_of, next, own_id, parent_of, row_violations, unread, violated}
+use Rattle.kg_declare.specs.Outcome.{Accepted, Refused, declaration_of, next, own_id, parent_of, row_violations, unread, violated}
 use Rattle.kg_declare.specs.RefusalBody.{refusal_response}
 use Rattle.kg_declare.specs.Steps.{IsRefusedAt}
 use Rattle.kg_declare.specs.declared.error.DeclareError.{DeclareError}
@@ -33,48 +33,48 @@ use Rattle.kg_declared_rows.specs.Rows.{Row, rows_of}
 abbrev pub Stands : Row → Type 0
 Stands row = IfSome row.parent (λ above. IsTrue (nests above.kind row.kind))
 
-abbrev pub start : Progress
+abbrev pub start : Accepted
 start = record { rows = no_rows; commands = []; drawn = 0 }
 
-abbrev pub decided : Progress → ℕ → Result Command Refusal → Result Progress Refused
-decided progress drawn (Ok command) = Ok (record {
-  rows = changed command progress.rows;
-  commands = progress.commands ++ command ∷ [];
+abbrev pub decided : Accepted → ℕ → Result Command Refusal → Result Accepted Refused
+decided accepted drawn (Ok command) = Ok (record {
+  rows = changed command accepted.rows;
+  commands = accepted.commands ++ command ∷ [];
   drawn = drawn;
 })
-decided progress drawn (Err refusal) = Err (record { response = refusal_response refusal; drawn = drawn })
+decided accepted drawn (Err refusal) = Err (record { response = refusal_response refusal; drawn = drawn })
 
 -- the row with this id is inserted
-abbrev pub inserted : ℕ → ℕ → Row → ℕ → ℕ → Progress → Result Progress Refused
-inserted now limit row id drawn progress =
-    decided progress drawn (insertion progress.rows row.kind (parent_of progress.commands row.parent) (object row.members) id now limit)
+abbrev pub inserted : ℕ → ℕ → Row → ℕ → ℕ → Accepted → Result Accepted Refused
+inserted now limit row id drawn accepted =
+    decided accepted drawn (insertion accepted.rows row.kind (parent_of accepted.commands row.parent) (object row.members) id now limit)
 
 -- the row has the id that it names, or the next one that is drawn
-abbrev pub identified : List (List ℕ) → ℕ → ℕ → Row → Option ℕ → Progress → Result Progress Refused
-identified draws now limit row (Some id) progress = inserted now limit row id progress.drawn progress
-identified draws now limit row None progress =
-    inserted now limit row (drawn_id (get_or draws progress.drawn [])) (suc progress.drawn) progress
+abbrev pub identified : List (List ℕ) → ℕ → ℕ → Row → Option ℕ → Accepted → Result Accepted Refused
+identified draws now limit row (Some id) accepted = inserted now limit row id accepted.drawn accepted
+identified draws now limit row None accepted =
+    inserted now limit row (drawn_id (get_or draws accepted.drawn [])) (suc accepted.drawn) accepted
 
 -- its fields are judged before an id is drawn for it
-unfoldable pub with_row : List (List ℕ) → ℕ → ℕ → Row → Progress → Result Progress Refused
-with_row draws now limit row progress =
+unfoldable pub with_row : List (List ℕ) → ℕ → ℕ → Row → Accepted → Result Accepted Refused
+with_row draws now limit row accepted =
     if length (row_violations row) == 0
-    then identified draws now limit row (own_id row) progress
-    else Err (violated (row_violations row) progress.drawn)
+    then identified draws now limit row (own_id row) accepted
+    else Err (violated (row_violations row) accepted.drawn)
 
-abbrev pub with_rows : List (List ℕ) → ℕ → ℕ → List Row → Progress → Result Progress Refused
-with_rows draws now limit [] progress = Ok progress
-with_rows draws now limit (row ∷ rows) progress = next (with_rows draws now limit rows) (with_row draws now limit row progress)
+abbrev pub with_rows : List (List ℕ) → ℕ → ℕ → List Row → Accepted → Result Accepted Refused
+with_rows draws now limit [] accepted = Ok accepted
+with_rows draws now limit (row ∷ rows) accepted = next (with_rows draws now limit rows) (with_row draws now limit row accepted)
 
 -- ---- what the calls answer
 
 -- the rows and commands so far, when so many ids were drawn
-abbrev pub progress_at : Made → ℕ → Progress
-progress_at made drawn = record { rows = made.rows; commands = made.commands; drawn = drawn }
+abbrev pub accepted_at : Made → ℕ → Accepted
+accepted_at made drawn = record { rows = made.rows; commands = made.commands; drawn = drawn }
 
 -- a step leaves what it means to leave
-abbrev pub Leaves : {T : Type 0} → Result T DeclareError → Result Progress Refused → Made → ℕ → Type 0
-Leaves (Ok done) meant made drawn = meant ≡ Ok (progress_at made drawn)
+abbrev pub Leaves : {T : Type 0} → Result T DeclareError → Result Accepted Refused → Made → ℕ → Type 0
+Leaves (Ok done) meant made drawn = meant ≡ Ok (accepted_at made drawn)
 Leaves (Err e) meant made drawn = IsRefusedAt e meant drawn
 
 -- the reply tells the refusal; want of memory is free
@@ -89,18 +89,18 @@ TellsRefusal error.NoMemory e = ⊤
 
 -- the ids that a step drew, and what it left: those drawn before it stand in front, and any may follow
 pub record Steps {S T : Type 0} (draws : S → S → List (List ℕ) → Type 0) (before now : S) (result : Result T DeclareError)
-    (old new : Made) (Means : List (List ℕ) → Progress → Result Progress Refused) : Type 0 where
+    (old new : Made) (Means : List (List ℕ) → Accepted → Result Accepted Refused) : Type 0 where
   pub drawn : List (List ℕ)
   pub moved : draws before now drawn
   pub leaves : (front more : List (List ℕ))
-      → Leaves result (Means (front ++ drawn ++ more) (progress_at old (length front))) new (length front + length drawn)
+      → Leaves result (Means (front ++ drawn ++ more) (accepted_at old (length front))) new (length front + length drawn)
 
 -- the same from the first id on
 pub record StepsFromStart {S T : Type 0} (draws : S → S → List (List ℕ) → Type 0) (before now : S) (result : Result T DeclareError)
-    (old new : Made) (Means : List (List ℕ) → Progress → Result Progress Refused) : Type 0 where
+    (old new : Made) (Means : List (List ℕ) → Accepted → Result Accepted Refused) : Type 0 where
   pub drawn : List (List ℕ)
   pub moved : draws before now drawn
-  pub leaves : (more : List (List ℕ)) → Leaves result (Means (drawn ++ more) (progress_at old 0)) new (length drawn)
+  pub leaves : (more : List (List ℕ)) → Leaves result (Means (drawn ++ more) (accepted_at old 0)) new (length drawn)
 
 -- the id is the one that is set, and else one that was drawn
 abbrev pub IsIdOf : Option ℕ → List (List ℕ) → ℕ → Type 0

@@ -121,7 +121,7 @@ draws_id row = length (row_violations row) == 0 && is_none (own_id row)
 -- ---- the declaration
 
 -- what is accepted: the rows after the commands, the commands, and how many ids were drawn
-pub record Progress : Type 0 where
+pub record Accepted : Type 0 where
   pub rows : RowLists
   pub commands : List Command
   pub drawn : ℕ
@@ -132,22 +132,22 @@ pub record Refused : Type 0 where
   pub drawn : ℕ
 
 -- how many ids are drawn for it, accepted or refused
-abbrev pub drawn_for : Result Progress Refused → ℕ
-drawn_for (Ok progress) = progress.drawn
+abbrev pub drawn_for : Result Accepted Refused → ℕ
+drawn_for (Ok accepted) = accepted.drawn
 drawn_for (Err refused) = refused.drawn
 
 abbrev pub violated : List BrokenRule → ℕ → Refused
 violated violations drawn = record { response = violation_response (listed (in_order violations)); drawn = drawn }
 
 -- of these rows ids are drawn for all, or for those up to the refused one
-abbrev pub answered : List Row → Result (List Command) RefusedRow → Result Progress Refused
+abbrev pub answered : List Row → Result (List Command) RefusedRow → Result Accepted Refused
 answered rows (Ok commands) =
     Ok (record { rows = rows_after commands; commands = commands; drawn = count_by draws_id rows })
 answered rows (Err refused) =
     Err (record { response = refused.response; drawn = count_by draws_id (take (suc refused.number) rows) })
 
 -- at the time `now`, in milliseconds, with at most `limit` rows of a kind
-unfoldable pub declared : List (List ℕ) → ℕ → ℕ → Members → Result Progress Refused
+unfoldable pub declared : List (List ℕ) → ℕ → ℕ → Members → Result Accepted Refused
 declared draws now limit declaration =
     if length (own_violations declaration) == 0
     then answered (rows_of declaration) (all_added now limit (with_ids draws (rows_of declaration)) [])
@@ -156,5 +156,5 @@ declared draws now limit declaration =
 unfoldable pub unread : Refused
 unread = record { response = gateway_message 400 (codes "Cannot parse JSON body"); drawn = 0 }
 
-unfoldable pub outcome : List ℕ → ℕ → ℕ → List (List ℕ) → Result Progress Refused
+unfoldable pub outcome : List ℕ → ℕ → ℕ → List (List ℕ) → Result Accepted Refused
 outcome line now limit draws = option_map_or (declared draws now limit) (declaration_of line) (Err unread)

@@ -7,7 +7,7 @@ ghost use Rattle.kg_rows.specs.Decision.{IsProper, decision};
 ghost use Rattle.kg_row_values.specs.Rows.{changed};
 ghost use Rattle.kg_field_rules.specs.Rules.{tell};
 ghost use Rattle.kg_bodies.specs.Settings.{id_at};
-ghost use Rattle.kg_declare.specs.Inserting.{Identifies, InsertsNewRow, IsConsistent, IsDecided, IsInsertion, Leaves, Refuses, Stands, Steps, StepsFromStart, TellsRefusal, TellsViolations, decided, progress_at, start, with_row, with_rows};
+ghost use Rattle.kg_declare.specs.Inserting.{Identifies, InsertsNewRow, IsConsistent, IsDecided, IsInsertion, Leaves, Refuses, Stands, Steps, StepsFromStart, TellsRefusal, TellsViolations, accepted_at, decided, start, with_row, with_rows};
 ghost use Rattle.kg_declare.specs.Outcome.{body_violations, inserted_id, parent_at, parent_of, row_violations, wrong_violations};
 ghost use Rattle.kg_declared_rows.specs.SeenRows.{seen, seen_all};
 
@@ -34,7 +34,7 @@ pub struct Made {
 impl Made {
     /// No rows. It takes no memory.
     pub fn new(alloc: Global) -> Made
-        ensures start { progress_at result 0 ≡ start }
+        ensures start { accepted_at result 0 ≡ start }
         ensures consistent { (limit : ℕ) → IsConsistent limit result }
     {
         Made {
@@ -103,7 +103,7 @@ fn insert_row<I: Ids>(
 fn insert(alloc: Global, draft: &Draft, made: &mut Made, limit: u32) -> Result<(), DeclareError>
     requires insertion { IsInsertion draft.now }
     requires proper { IsProper draft.now }
-    ensures leaves { (before drawn : ℕ) → Leaves result (decided (progress_at made.old before) drawn (decision made.old.rows draft.now limit)) made.new drawn }
+    ensures leaves { (before drawn : ℕ) → Leaves result (decided (accepted_at made.old before) drawn (decision made.old.rows draft.now limit)) made.new drawn }
     ensures consistent { IsConsistent limit made.old → OnOk result (IsConsistent limit made.new) }
 {
     allowed_commands_make_valid_rows(); // a law, called for the proof

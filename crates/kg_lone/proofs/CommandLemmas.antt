@@ -3,8 +3,8 @@ use Rattle.std.proofs.Common.{◌≡◌, ℕ, ◌≤◌, ◌⊎◌, ◌==◌, in
 use Rattle.std.specs.Prelude.{nat_lt}
 use Rattle.std.proofs.lemmas.Bool.{le-ltb, lt-ltb}
 use Rattle.kg_declare.specs.Histories.{AreInsertions}
-use Rattle.kg_declare.specs.Outcome.{Progress, Refused, drawn_for, next, outcome}
-use Rattle.kg_declare.specs.Steps.{Answers, progress_after}
+use Rattle.kg_declare.specs.Outcome.{Accepted, Refused, drawn_for, next, outcome}
+use Rattle.kg_declare.specs.Steps.{Answers, accepted_after}
 use Rattle.kg_declare.specs.declared.error.DeclareError.{DeclareError}
 use Rattle.kg_declare.specs.declared.error.DeclareError.TheVariants as error
 use Rattle.kg_message.specs.declared.response.Response.{Response}
@@ -36,19 +36,19 @@ read_is_first bytes TooLong left now limit draws is = rw (lt-ltb most_line (leng
 -- ---- how many ids are drawn
 
 -- a plugin changes no count of ids
-drawn_without : (progress : Progress) → drawn_for (without_plugins progress) ≡ progress.drawn
-drawn_without progress = by_test (length progress.rows.plugins == 0)
+drawn_without : (accepted : Accepted) → drawn_for (without_plugins accepted) ≡ accepted.drawn
+drawn_without accepted = by_test (length accepted.rows.plugins == 0)
   where
-    by_test : (none : Bool) → drawn_for (cond none (Ok progress) (Err (record { response = not_built; drawn = progress.drawn }))) ≡ progress.drawn
+    by_test : (none : Bool) → drawn_for (cond none (Ok accepted) (Err (record { response = not_built; drawn = accepted.drawn }))) ≡ accepted.drawn
     by_test true = refl
     by_test false = refl
 
-drawn_next : (meant : Result Progress Refused) → drawn_for (next without_plugins meant) ≡ drawn_for meant
-drawn_next (Ok progress) = drawn_without progress
+drawn_next : (meant : Result Accepted Refused) → drawn_for (next without_plugins meant) ≡ drawn_for meant
+drawn_next (Ok accepted) = drawn_without accepted
 drawn_next (Err refused) = refl
 
 -- a line that is decided so draws its ids
-pub within_decided : (meant : List (List ℕ) → Result Progress Refused) (drawn : List (List ℕ)) (answer : Result Progress Refused)
+pub within_decided : (meant : List (List ℕ) → Result Accepted Refused) (drawn : List (List ℕ)) (answer : Result Accepted Refused)
     → drawn_for answer ≡ length drawn → DecidesMeant meant drawn answer → DrawsWithin meant drawn
 within_decided meant drawn answer all is = λ more. let same = ap drawn_for (is more) in omega arith
 
@@ -84,7 +84,7 @@ pub accepts : (line : List ℕ) (now limit : ℕ) (drawn : List (List ℕ)) (com
 unfolding run_outcome
 accepts line now limit drawn commands (Ok same) are is ok err = λ more.
     let none = plugins_are commands are.inserts ∙ ap not ok.1 in
-    ap (next without_plugins) (is more) ∙ rw none (ap (λ cs. Ok (progress_after cs (length drawn))) (sym ok.0))
+    ap (next without_plugins) (is more) ∙ rw none (ap (λ cs. Ok (accepted_after cs (length drawn))) (sym ok.0))
 accepts line now limit drawn commands (Err (error.Refused response)) are is ok err = λ more.
     let some = plugins_are commands are.inserts ∙ ap not err.1 in
     ap (next without_plugins) (is more) ∙ rw some (ap (λ r. Err (record { response = r; drawn = length drawn })) (sym err.0))

@@ -8,8 +8,8 @@ use Rattle.kg_outside.proofs.Observed.{with_end-append, with_end-nil}
 use Rattle.kg_router.specs.RouterRows.{RouterRows}
 use Rattle.kg_wire.specs.Messages.{Message, IsReading, IsRequest, print_message, request_of}
 use Rattle.kg_wire.proofs.MessageLemmas.{reading_front}
-use Rattle.kg_declare.specs.Outcome.{Progress, Refused as RefusedLine}
-use Rattle.kg_declare.specs.Steps.{progress_after}
+use Rattle.kg_declare.specs.Outcome.{Accepted, Refused as RefusedLine}
+use Rattle.kg_declare.specs.Steps.{accepted_after}
 use Rattle.kg_row_values.specs.Rows.{rows_after}
 use Rattle.kg_row_values.specs.declared.command.Command.{Command}
 use Rattle.kg_plain.specs.Answered.{AnswersAll, AnswersFront}
@@ -38,7 +38,7 @@ not_both : {P Q : Type 0} {x : Result P Q} {p : P} {q : Q} → x ≡ Ok p → x 
 not_both a b = absurd (cc)
 
 -- what a line becomes at one time
-at_time : (line : List ℕ) (now time : ℕ) (drawn : List (List ℕ)) (answer : Result Progress RefusedLine) → now ≡ time
+at_time : (line : List ℕ) (now time : ℕ) (drawn : List (List ℕ)) (answer : Result Accepted RefusedLine) → now ≡ time
     → first_outcome line now most_rows drawn ≡ answer → first_outcome line time most_rows drawn ≡ answer
 at_time line now time drawn answer same is = subst (λ n. first_outcome line n most_rows drawn ≡ answer) same is
 
@@ -119,23 +119,23 @@ first_front Drew Read call status most drew read (inr (inr (five, is))) = record
 
 -- what was written of the replies
 pub replies_front : (Drew : List (List ℕ) → Type 0) (Read Later : List ℕ → Type 0) (bytes : List ℕ) (left before written : Option (List ℕ))
-    (now : ℕ) (drawn : List (List ℕ)) (progress : Progress)
-    → Decides (line_of bytes) now most_rows drawn (Ok progress) → progress.drawn ≡ length drawn → left ≡ Some (after_line bytes) → Drew drawn
+    (now : ℕ) (drawn : List (List ℕ)) (accepted : Accepted)
+    → Decides (line_of bytes) now most_rows drawn (Ok accepted) → accepted.drawn ≡ length drawn → left ≡ Some (after_line bytes) → Drew drawn
     → ((times : List ℕ) → Later times → Read (now ∷ times))
-    → AnswersFront (router_rows progress.rows) Later left before written → WritesFront Drew Read bytes before written
-replies_front Drew Read Later bytes left before written now drawn progress declared all told drew on is =
+    → AnswersFront (router_rows accepted.rows) Later left before written → WritesFront Drew Read bytes before written
+replies_front Drew Read Later bytes left before written now drawn accepted declared all told drew on is =
     let ahead = seen_ahead (after_line bytes) (flat_map print_message is.messages) left is.ahead told is.whole in
     record {
       drawn = drawn;
       times = now ∷ is.times;
-      front = texts (router_rows progress.rows) 0 is.messages ++ is.part;
+      front = texts (router_rows accepted.rows) 0 is.messages ++ is.part;
       drew = drew;
       read = on is.times is.read;
       meant = inr (record {
         now = now;
         later = is.times;
         clock = refl;
-        progress = progress;
+        accepted = accepted;
         declared = declared;
         all = all;
         messages = is.messages;
@@ -179,15 +179,15 @@ refusal_written Drew Read call most drew read is = record {
 
 -- the replies were written
 pub replies_written : (Drew : List (List ℕ) → Type 0) (Read Later : List ℕ → Type 0) (bytes : List ℕ) (left before written : Option (List ℕ))
-    (now : ℕ) (drawn : List (List ℕ)) (progress : Progress) (end : End)
-    → Decides (line_of bytes) now most_rows drawn (Ok progress) → progress.drawn ≡ length drawn
+    (now : ℕ) (drawn : List (List ℕ)) (accepted : Accepted) (end : End)
+    → Decides (line_of bytes) now most_rows drawn (Ok accepted) → accepted.drawn ≡ length drawn
     → left ≡ Some (after_line bytes) → Drew drawn
     → ((times : List ℕ) → Later times → Read (now ∷ times))
-    → AnswersAll (router_rows progress.rows) Later left before written end → WritesText Drew Read bytes before written (status_of end)
-replies_written Drew Read Later bytes left before written now drawn progress end declared all told drew on is =
+    → AnswersAll (router_rows accepted.rows) Later left before written end → WritesText Drew Read bytes before written (status_of end)
+replies_written Drew Read Later bytes left before written now drawn accepted end declared all told drew on is =
     let done = is.answered in
     let ahead = seen_ahead (after_line bytes) (flat_map print_message is.messages) left is.ahead told done.whole in
-    let replies = texts (router_rows progress.rows) 0 is.messages in
+    let replies = texts (router_rows accepted.rows) 0 is.messages in
     record {
       drawn = drawn;
       times = now ∷ done.times;
@@ -198,7 +198,7 @@ replies_written Drew Read Later bytes left before written now drawn progress end
         now = now;
         later = done.times;
         clock = refl;
-        progress = progress;
+        accepted = accepted;
         declared = ap (first_outcome (line_of bytes) now most_rows) (sym (append-nil drawn)) ∙ declared [];
         all = all;
         messages = is.messages;
@@ -245,7 +245,7 @@ same_ends replies end last status code text other is also mine yours same = reco
 pub alike : (bytes : List ℕ) (drawn : List (List ℕ)) (times : List ℕ) (status : ℕ) (text : List ℕ) (code : ℕ) (other : List ℕ)
     → IsDryText bytes drawn times status text → IsDryText bytes drawn times code other → AreAlike status text code other
 alike bytes drawn times status text code other (inl a) (inr r) =
-    absurd (not_both (at_time (line_of bytes) a.now r.now drawn (Ok a.progress)
+    absurd (not_both (at_time (line_of bytes) a.now r.now drawn (Ok a.accepted)
     (first_time a.now r.now a.later [] (sym a.clock ∙ r.clock)).0 a.declared) r.declared)
 alike bytes drawn times status text code other (inr r) (inl a) =
     absurd (not_both a.declared (at_time (line_of bytes) r.now a.now drawn (Err r.refused)
@@ -259,13 +259,13 @@ alike bytes drawn times status text code other (inr r) (inr s) =
     }
 alike bytes drawn times status text code other (inl a) (inl b) =
     let time = first_time a.now b.now a.later b.later (sym a.clock ∙ b.clock) in
-    let rows : a.progress ≡ b.progress = one_outcome (at_time (line_of bytes) a.now b.now drawn (Ok a.progress) time.0 a.declared) b.declared in
+    let rows : a.accepted ≡ b.accepted = one_outcome (at_time (line_of bytes) a.now b.now drawn (Ok a.accepted) time.0 a.declared) b.declared in
     let same = same_whole (after_line bytes) a.messages b.messages a.rest b.rest a.end b.end a.reading b.reading a.most b.most a.ends b.ends in
     let ends = subst (EndsSo b.end a.messages) (sym same.1) (subst (λ ms. EndsSo b.end ms b.rest) (sym same.0) b.ends) in
-    same_ends (texts (router_rows a.progress.rows) 0 a.messages) a.end b.end status code text other a.ending b.ending a.written
+    same_ends (texts (router_rows a.accepted.rows) 0 a.messages) a.end b.end status code text other a.ending b.ending a.written
     (b.written
-    ∙ ap (λ (p : Progress). texts (router_rows p.rows) 0 b.messages ++ last_text b.end) (sym rows)
-    ∙ ap (λ ms. texts (router_rows a.progress.rows) 0 ms ++ last_text b.end) (sym same.0))
+    ∙ ap (λ (p : Accepted). texts (router_rows p.rows) 0 b.messages ++ last_text b.end) (sym rows)
+    ∙ ap (λ ms. texts (router_rows a.accepted.rows) 0 ms ++ last_text b.end) (sym same.0))
     (one_end a.end b.end a.messages a.rest a.ends ends)
 
 -- ---- a run that was cut short, and one that goes on
@@ -357,14 +357,14 @@ behind_goes_on : (bytes : List ℕ) (drawn more : List (List ℕ)) (times later 
     → StopsBehind bytes drawn times front → IsDryText bytes (drawn ++ more) (times ++ later) status text → IsFront front text
 behind_goes_on bytes drawn more times later status front text s (inr r) =
     let time = first_time s.now r.now (s.later ++ later) [] (sym (ap (λ ts. ts ++ later) s.clock) ∙ r.clock) in
-    absurd (not_both (at_time (line_of bytes) s.now r.now (drawn ++ more) (Ok s.progress) time.0 (s.declared more)) r.declared)
+    absurd (not_both (at_time (line_of bytes) s.now r.now (drawn ++ more) (Ok s.accepted) time.0 (s.declared more)) r.declared)
 behind_goes_on bytes drawn more times later status front text s (inl a) =
     let time = first_time s.now a.now (s.later ++ later) a.later (sym (ap (λ ts. ts ++ later) s.clock) ∙ a.clock) in
-    let same : s.progress ≡ a.progress =
-    one_outcome (at_time (line_of bytes) s.now a.now (drawn ++ more) (Ok s.progress) time.0 (s.declared more)) a.declared in
-    replies_go_on (after_line bytes) (router_rows s.progress.rows) s.messages a.messages s.rest a.rest s.part front text a.end (length s.later)
+    let same : s.accepted ≡ a.accepted =
+    one_outcome (at_time (line_of bytes) s.now a.now (drawn ++ more) (Ok s.accepted) time.0 (s.declared more)) a.declared in
+    replies_go_on (after_line bytes) (router_rows s.accepted.rows) s.messages a.messages s.rest a.rest s.part front text a.end (length s.later)
     s.reading s.on s.few s.stops a.reading a.most a.ends s.written
-    (a.written ∙ ap (λ (p : Progress). texts (router_rows p.rows) 0 a.messages ++ last_text a.end) (sym same))
+    (a.written ∙ ap (λ (p : Accepted). texts (router_rows p.rows) 0 a.messages ++ last_text a.end) (sym same))
 
 -- what it wrote is a front of what the other writes
 pub goes_on : (bytes : List ℕ) (drawn more : List (List ℕ)) (times later : List ℕ) (status : ℕ) (front text : List ℕ)
@@ -485,7 +485,7 @@ pub answered_text : (Drew : List (List ℕ) → Type 0) (Read Later : List ℕ �
     → IfOk result (λ end. WritesText Drew Read bytes before written (status_of end))
 answered_text Drew Read Later bytes left before middle written now drawn commands (Err status) gives same drew on ended = tt
 answered_text Drew Read Later bytes left before middle written now drawn commands (Ok end) gives same drew on ended =
-    replies_written Drew Read Later bytes left before written now drawn (progress_after commands (length drawn)) end
+    replies_written Drew Read Later bytes left before written now drawn (accepted_after commands (length drawn)) end
     gives.declared refl gives.after drew on
     (subst (λ w. AnswersAll (router_rows (rows_after commands)) Later left w written end) same ended)
 
@@ -503,6 +503,6 @@ pub answered_front : (Drew : List (List ℕ) → Type 0) (Read Later : List ℕ 
     → ((times : List ℕ) → Later times → Read (now ∷ times))
     → AnswersFront (router_rows (rows_after commands)) Later left middle written → WritesFront Drew Read bytes before written
 answered_front Drew Read Later bytes left before middle written now drawn commands gives same drew on front =
-    replies_front Drew Read Later bytes left before written now drawn (progress_after commands (length drawn))
+    replies_front Drew Read Later bytes left before written now drawn (accepted_after commands (length drawn))
     gives.declared refl gives.after drew on
     (subst (λ w. AnswersFront (router_rows (rows_after commands)) Later left w written) same front)

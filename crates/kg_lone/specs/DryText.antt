@@ -1,7 +1,7 @@
 -- The dry run: its first line declares the rows, and each request after it gets the plain gateway's
 -- reply (this project's own: docs/BEHAVIOUR.md, "The dry run").
 use Rattle.std.specs.Prelude.{◌≡◌, ℕ, ◌<◌, ◌≤◌, ◌⊎◌, List, [], ◌∷◌, ◌++◌, length, Option, Result, Ok, Err}
-use Rattle.kg_declare.specs.Outcome.{Progress, Refused as RefusedLine}
+use Rattle.kg_declare.specs.Outcome.{Accepted, Refused as RefusedLine}
 use Rattle.kg_lone.specs.FirstCommands.{BeginsRefusal, Decides, DrawsWithin, first_outcome, refusal_line}
 use Rattle.kg_lone.specs.FirstLine.{line_of, after_line}
 use Rattle.kg_lone.specs.InsertedRows.{router_rows}
@@ -34,9 +34,9 @@ pub record IsAnsweredRun (bytes : List ℕ) (drawn : List (List ℕ)) (times : L
   pub now : ℕ
   pub later : List ℕ
   pub clock : times ≡ now ∷ later
-  pub progress : Progress
-  pub declared : first_outcome (line_of bytes) now most_rows drawn ≡ Ok progress
-  pub all : progress.drawn ≡ length drawn
+  pub accepted : Accepted
+  pub declared : first_outcome (line_of bytes) now most_rows drawn ≡ Ok accepted
+  pub all : accepted.drawn ≡ length drawn
   pub messages : List Message
   pub rest : List ℕ
   pub reading : IsReading (after_line bytes) messages rest
@@ -44,7 +44,7 @@ pub record IsAnsweredRun (bytes : List ℕ) (drawn : List (List ℕ)) (times : L
   pub end : End
   pub ends : EndsSo end messages rest
   pub one_each : length later ≡ length messages
-  pub written : text ≡ texts (router_rows progress.rows) 0 messages ++ last_text end
+  pub written : text ≡ texts (router_rows accepted.rows) 0 messages ++ last_text end
   pub ending : status ≡ status_of end
 
 -- the first line is refused
@@ -79,17 +79,17 @@ pub record StopsBehind (bytes : List ℕ) (drawn : List (List ℕ)) (times : Lis
   pub now : ℕ
   pub later : List ℕ
   pub clock : times ≡ now ∷ later
-  pub progress : Progress
-  pub declared : Decides (line_of bytes) now most_rows drawn (Ok progress)
-  pub all : progress.drawn ≡ length drawn
+  pub accepted : Accepted
+  pub declared : Decides (line_of bytes) now most_rows drawn (Ok accepted)
+  pub all : accepted.drawn ≡ length drawn
   pub messages : List Message
   pub rest : List ℕ
   pub reading : IsReading (after_line bytes) messages rest
   pub on : GoOn messages
   pub few : length messages < most_requests
   pub part : List ℕ
-  pub stops : StopsIn (router_rows progress.rows) (length messages) (length later) rest part
-  pub written : front ≡ texts (router_rows progress.rows) 0 messages ++ part
+  pub stops : StopsIn (router_rows accepted.rows) (length messages) (length later) rest part
+  pub written : front ≡ texts (router_rows accepted.rows) 0 messages ++ part
 
 -- over these bytes, with these ids drawn and these times read, a run that was cut short may have written this
 abbrev pub IsCutText : List ℕ → List (List ℕ) → List ℕ → List ℕ → Type 0

@@ -1,8 +1,8 @@
 -- What a first line gives: the commands of its declaration, or its refusal (this project's own:
 -- docs/BEHAVIOUR.md, "The dry run").
 use Rattle.std.specs.Prelude.{◌≡◌, ℕ, ◌≤◌, ◌==◌, nat_lt, ◌⊎◌, List, [], ◌++◌, length, codes, Option, Some, Result, Ok, Err, if◌then◌else◌}
-use Rattle.kg_declare.specs.Outcome.{Progress, Refused, drawn_for, next, outcome}
-use Rattle.kg_declare.specs.Steps.{progress_after}
+use Rattle.kg_declare.specs.Outcome.{Accepted, Refused, drawn_for, next, outcome}
+use Rattle.kg_declare.specs.Steps.{accepted_after}
 use Rattle.kg_lone.specs.FirstLine.{line_of, after_line}
 use Rattle.kg_message.specs.GatewayMessage.{gateway_message}
 use Rattle.kg_message.specs.declared.response.Response.{Response}
@@ -25,30 +25,30 @@ unfoldable pub not_built : Response
 not_built = gateway_message 400 (codes "Not built yet")
 
 -- a declaration that is accepted is refused all the same where it has a plugin
-abbrev pub without_plugins : Progress → Result Progress Refused
-without_plugins progress =
-    if length progress.rows.plugins == 0 then Ok progress
-    else Err (record { response = not_built; drawn = progress.drawn })
+abbrev pub without_plugins : Accepted → Result Accepted Refused
+without_plugins accepted =
+    if length accepted.rows.plugins == 0 then Ok accepted
+    else Err (record { response = not_built; drawn = accepted.drawn })
 
 -- ---- the line
 
 -- what becomes of a line within the limit, at the time `now`, in milliseconds, with at most `limit` rows of
 -- a kind, when these ids are drawn
-unfoldable pub run_outcome : List ℕ → ℕ → ℕ → List (List ℕ) → Result Progress Refused
+unfoldable pub run_outcome : List ℕ → ℕ → ℕ → List (List ℕ) → Result Accepted Refused
 run_outcome line now limit draws = next without_plugins (outcome line now limit draws)
 
 -- what becomes of the first line
-unfoldable pub first_outcome : List ℕ → ℕ → ℕ → List (List ℕ) → Result Progress Refused
+unfoldable pub first_outcome : List ℕ → ℕ → ℕ → List (List ℕ) → Result Accepted Refused
 first_outcome line now limit draws =
     if nat_lt most_line (length line) then Err (record { response = bad_line; drawn = 0 })
     else run_outcome line now limit draws
 
 -- exactly these ids are drawn for it, and they decide what becomes of it, whatever is drawn after them
-abbrev pub Decides : List ℕ → ℕ → ℕ → List (List ℕ) → Result Progress Refused → Type 0
+abbrev pub Decides : List ℕ → ℕ → ℕ → List (List ℕ) → Result Accepted Refused → Type 0
 Decides line now limit drawn answer = (more : List (List ℕ)) → first_outcome line now limit (drawn ++ more) ≡ answer
 
 -- no more ids were drawn than are drawn for what is meant, whatever ids are drawn after them
-abbrev pub DrawsWithin : (List (List ℕ) → Result Progress Refused) → List (List ℕ) → Type 0
+abbrev pub DrawsWithin : (List (List ℕ) → Result Accepted Refused) → List (List ℕ) → Type 0
 DrawsWithin meant drawn = (more : List (List ℕ)) → length drawn ≤ drawn_for (meant (drawn ++ more))
 
 -- ---- what is written
@@ -82,7 +82,7 @@ pub record FirstLineCall : Type 0 where
 
 -- the line declares these commands, and what stands after it is left
 pub record GivesCommands (call : FirstLineCall) (commands : List Command) : Type 0 where
-  pub declared : Decides (line_of call.bytes) call.now call.limit call.drawn (Ok (progress_after commands (length call.drawn)))
+  pub declared : Decides (line_of call.bytes) call.now call.limit call.drawn (Ok (accepted_after commands (length call.drawn)))
   pub after : call.left ≡ Some (after_line call.bytes)
 
 -- it is refused, and its refusal was written

@@ -1,7 +1,7 @@
 use Rattle.std.proofs.Common.{[], ◌++◌, All, Ok, length, refl, sym, ap, subst, ◌∙◌}
 use Rattle.kg_declare.specs.Inserting.{Stands}
 use Rattle.kg_declared_rows.specs.SeenRows.{seen_all}
-use Rattle.kg_declare.specs.Steps.{IsRefusedAt, progress_after}
+use Rattle.kg_declare.specs.Steps.{IsRefusedAt, accepted_after}
 use Rattle.kg_declare.proofs.ProgressLemmas.{at_commands, unbroken_inserted, from_start}
 use Rattle.kg_declare.proofs.StandLemmas.{rows_stand}
 use Rattle.kg_declare.proofs.line.declare.Goals as goal
@@ -27,7 +27,7 @@ returns-in-Ok-insert_rows-clause-outcome g c =
           unbroken_inserted c.args.line.now rows c.args.now c.args.limit (drawn ++ more) c.in-Ok.ensures.ok
           ∙ from_start (drawn ++ more) c.args.now c.args.limit rows c.new-made.result _ c.new-made.ensures.start (c.in-Ok-insert_rows.ensures.steps.leaves more)
           ∙ ap Ok (at_commands c.args.limit c.insert_rows.new.made (length drawn) (c.in-Ok-insert_rows.ensures.consistent (c.new-made.ensures.consistent c.args.limit))
-          ∙ ap (λ commands. progress_after commands (length drawn)) (sym c.commands_of.ensures.commands));
+          ∙ ap (λ commands. accepted_after commands (length drawn)) (sym c.commands_of.ensures.commands));
     }
 
 pub returns-in-Ok-insert_rows-clause-commands : goal.returns-in-Ok-insert_rows-clause-commands

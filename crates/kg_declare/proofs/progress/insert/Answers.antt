@@ -1,7 +1,7 @@
 use Rattle.std.proofs.Common.{sym, subst}
 use Rattle.kg_row_types.specs.ValidRows.{AreValidRows}
 use Rattle.kg_rows.specs.Decision.{decision}
-use Rattle.kg_declare.specs.Inserting.{progress_at}
+use Rattle.kg_declare.specs.Inserting.{accepted_at}
 use Rattle.kg_declare.proofs.HistoryLemmas.{step_consistent, step_leaves}
 use Rattle.kg_declare.proofs.ProgressLemmas.{refused_at}
 use Rattle.kg_declare.proofs.progress.insert.Goals as goal
@@ -20,4 +20,4 @@ returns-in_ok-add-in-Ok-clause-consistent c = λ is.
 
 pub returns-in-Err-clause-leaves : goal.returns-in-Err-clause-leaves
 returns-in-Err-clause-leaves c = λ before drawn.
-    refused_at c.in-Err.e (progress_at c.args.made.now before) drawn (decision c.args.made.now.rows c.args.draft.now c.args.limit) c.in-Err.ensures.err
+    refused_at c.in-Err.e (accepted_at c.args.made.now before) drawn (decision c.args.made.now.rows c.args.draft.now c.args.limit) c.in-Err.ensures.err

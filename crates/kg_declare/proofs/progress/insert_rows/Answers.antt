@@ -1,6 +1,6 @@
 use Rattle.std.proofs.Common.{◌+◌, ◌++◌, All, length, length-append, ◌∙◌, refl, sym, ap, subst}
 use Rattle.std.proofs.lemmas.List.Elements.{All-head, All-tail}
-use Rattle.kg_declare.specs.Inserting.{Stands, progress_at, with_row, with_rows}
+use Rattle.kg_declare.specs.Inserting.{Stands, accepted_at, with_row, with_rows}
 use Rattle.kg_declared_rows.specs.SeenRows.{seen, seen_all}
 use Rattle.kg_declare.proofs.ProgressLemmas.{SoFar, ahead_row, nothing_ahead_yet, nothing_left, refused_later}
 use Rattle.kg_declare.proofs.progress.insert_rows.Goals as goal
@@ -33,9 +33,9 @@ loop-row-preserved g c =
         ahead = λ more.
             ahead_row drawn step more c.args.now c.args.limit all rest (seen c.in-Some.row) c.args.made.now c.loop-row.made
             (λ more. so_far.ahead more
-            ∙ ap (λ items. with_rows (drawn ++ more) c.args.now c.args.limit (seen_all items) (progress_at c.loop-row.made (length drawn))) c.in-Some.ensures.steps.0)
+            ∙ ap (λ items. with_rows (drawn ++ more) c.args.now c.args.limit (seen_all items) (accepted_at c.loop-row.made (length drawn))) c.in-Some.ensures.steps.0)
             _ (c.in-Ok.ensures.steps.leaves drawn more)
-            ∙ ap (λ count. with_rows (drawn ++ step ++ more) c.args.now c.args.limit rest (progress_at c.insert_row.new.made count)) (sym (length-append drawn step));
+            ∙ ap (λ count. with_rows (drawn ++ step ++ more) c.args.now c.args.limit rest (accepted_at c.insert_row.new.made count)) (sym (length-append drawn step));
       };
       stand = All-tail Stands (seen c.in-Some.row) rest
           (subst (λ items. All Stands (seen_all items)) c.in-Some.ensures.steps.0 c.loop-row.invariant.stand);
@@ -54,12 +54,12 @@ returns-in-Err-clause-steps g c =
       moved = g.met.I.Ids.draws_on _ _ _ _ _ so_far.moved c.in-Err.ensures.steps.moved;
       leaves = λ more.
           refused_later c.in-Err.e (drawn ++ step ++ more) c.args.now c.args.limit rest
-          (with_row (drawn ++ step ++ more) c.args.now c.args.limit (seen c.in-Some.row) (progress_at c.loop-row.made (length drawn)))
-          (with_rows (drawn ++ step ++ more) c.args.now c.args.limit all (progress_at c.args.made.now 0))
+          (with_row (drawn ++ step ++ more) c.args.now c.args.limit (seen c.in-Some.row) (accepted_at c.loop-row.made (length drawn)))
+          (with_rows (drawn ++ step ++ more) c.args.now c.args.limit all (accepted_at c.args.made.now 0))
           (length drawn + length step) (length (drawn ++ step)) (sym (length-append drawn step))
           (ahead_row drawn step more c.args.now c.args.limit all rest (seen c.in-Some.row) c.args.made.now c.loop-row.made
           (λ more. so_far.ahead more
-          ∙ ap (λ items. with_rows (drawn ++ more) c.args.now c.args.limit (seen_all items) (progress_at c.loop-row.made (length drawn))) c.in-Some.ensures.steps.0)
+          ∙ ap (λ items. with_rows (drawn ++ more) c.args.now c.args.limit (seen_all items) (accepted_at c.loop-row.made (length drawn))) c.in-Some.ensures.steps.0)
           _ refl)
           (c.in-Err.ensures.steps.leaves drawn more);
     }
@@ -73,7 +73,7 @@ returns-clause-steps g c =
       drawn = drawn;
       moved = so_far.moved;
       leaves = λ more. so_far.ahead more
-          ∙ ap (λ items. with_rows (drawn ++ more) c.args.now c.args.limit (seen_all items) (progress_at c.loop-row.made (length drawn))) none;
+          ∙ ap (λ items. with_rows (drawn ++ more) c.args.now c.args.limit (seen_all items) (accepted_at c.loop-row.made (length drawn))) none;
     }
 
 pub returns-clause-consistent : goal.returns-clause-consistent
