@@ -6,7 +6,7 @@ mod commands;
 mod dry;
 mod line;
 mod rows;
-mod status;
+pub mod status;
 
 pub use crate::commands::first_commands;
 pub use crate::dry::{cut_text_goes_on, exit_status, one_text, run, run_to_end};

@@ -8,23 +8,12 @@ mod words;
 use crate::input::Input;
 use crate::output::Output;
 use crate::words::{Words, words_of};
+use kg_lone::status::{DONE, OTHER_WORDS, OUT_OF_MEMORY, READ_FAULT, WRITE_FAULT};
 use kg_lone::{End, exit_status, run_to_end};
 use kg_outside::{CountIds, StillClock};
 use kg_text::{List, Text};
 use std::io::{self, BufReader};
 use std::process::ExitCode;
-
-// The status of a run with other words.
-const OTHER_WORDS: u8 = 2;
-
-// The status of a run whose input could not be read.
-const READ_FAULT: u8 = 4;
-
-// The status of a run whose output could not be written.
-const WRITE_FAULT: u8 = 5;
-
-// The status of a run without memory.
-const OUT_OF_MEMORY: u8 = 6;
 
 // How many bytes are asked of standard input at once.
 const PIECE: usize = 65_536;
@@ -122,7 +111,7 @@ fn answer(rt: &HostRuntime, words: &List<Text>) -> Outcome {
 // Writes a text to standard output.
 fn show(rt: &HostRuntime, text: &str) -> u8 {
     match rt.print(text) {
-        Ok(()) => 0,
+        Ok(()) => DONE,
         Err(_) => WRITE_FAULT,
     }
 }
