@@ -291,8 +291,8 @@ module _ (config : SizeLimit) (valid : IsValidSizeLimit config) where
   unfolding whole_in
   size_limit_again =
       ap₂ (λ size counted. config_of.RequestSizeLimiting (record { allowed_payload_size = size; size_unit = counted }))
-      (whole_over 1 1000000000 config.allowed_payload_size 128 valid.size.0 valid.size.1)
-      (unit_over config.size_unit unit.Megabytes)
+      (whole_over 1 1000000000 config.allowed_payload_size _ valid.size.0 valid.size.1)
+      (unit_over config.size_unit _)
 
 by_rule : (by : LimitBy) → judged (shape.OneOf choice.LimitBy) (string (limit_text by)) ≡ None
 by_rule limit.Consumer = refl
@@ -338,7 +338,7 @@ module _ (config : RateLimiting) (valid : IsValidRateLimiting config) where
       rate_limiting_same config.second _ config.minute _ config.hour _ config.day _ config.limit_by _
       (option_whole_over 1 1000000000 config.second valid.second) (option_whole_over 1 1000000000 config.minute valid.minute)
       (option_whole_over 1 1000000000 config.hour valid.hour) (option_whole_over 1 1000000000 config.day valid.day)
-      (by_over config.limit_by limit.Consumer)
+      (by_over config.limit_by _)
 
 -- ---- steps of a request's change
 
@@ -551,7 +551,7 @@ module _ (config : Termination) (valid : IsValidTermination config) where
   unfolding text_in whole_in
   termination_again =
       termination_same config.status_code _ config.message _ config.body _ config.content_type _
-      (whole_over 200 599 config.status_code 503 valid.status_code.0 valid.status_code.1)
+      (whole_over 200 599 config.status_code _ valid.status_code.0 valid.status_code.1)
       (option_over text_kind.FreeText config.message reply_message) (option_over text_kind.LongText config.body reply_body) (option_over text_kind.FreeText config.content_type reply_type)
 
 -- ---- any plugin

@@ -18,6 +18,7 @@ use Rattle.kg_field_tables.specs.Judging.{judged}
 use Rattle.kg_field_tables.specs.declared.reference.Mention.{Mention}
 use Rattle.kg_field_tables.specs.declared.reference.Mention.TheVariants as mention
 use Rattle.kg_field_tables.specs.declared.shape.Shape.TheVariants as shape
+use Rattle.kg_field_tables.specs.declared.default_value.DefaultValue.TheVariants.{Unset}
 use Rattle.kg_field_tables.specs.declared.table.Field.TheVariants.{Judged}
 use Rattle.kg_field_tables.specs.declared.table.Table.TheVariants as table
 use Rattle.kg_row_making.specs.Bases.{Again}
@@ -62,7 +63,7 @@ link_rule : (how : Mention) (link : Option ℕ) → IfSome link IsId → judged 
 link_rule how None is = refl
 link_rule how (Some id) is = reference_rule how id is
 
-link_inside : (how : Mention) (link : Option ℕ) (path : List ℕ) → violations_inside (shown_link link) (Judged (shape.Reference how)) path ≡ []
+link_inside : (how : Mention) (link : Option ℕ) (path : List ℕ) → violations_inside (shown_link link) (Judged (shape.Reference how) Unset) path ≡ []
 link_inside how None path = refl
 link_inside how (Some id) path = refl
 

@@ -1,5 +1,5 @@
 -- A shown route makes the route again.
-use Rattle.std.proofs.Common.{◌≡◌, ℕ, ◌/◌, ◌==◌, nat_lt, nat_le, ℤ, pos, if◌then◌else◌, Bool, true, false, List, [], ◌∷◌, length, fold, map, All, Option, Some, None, is_some, option_map, option_and_then, unwrap_or, codes, refl, ap, ◌∙◌, arith}
+use Rattle.std.proofs.Common.{◌≡◌, ℕ, ◌/◌, ◌==◌, nat_lt, nat_le, ℤ, if◌then◌else◌, Bool, true, false, List, [], ◌∷◌, length, fold, map, All, Option, Some, None, is_some, option_map, option_and_then, unwrap_or, codes, refl, ap, ◌∙◌, arith}
 use Rattle.std.proofs.lemmas.Bool.{and_from, and_parts}
 use Rattle.std.proofs.lemmas.Bool.Decides.{nat_tests}
 use Rattle.std.specs.Cmp.Lexicographic.{slice_cmp}
@@ -28,6 +28,7 @@ use Rattle.kg_field_tables.specs.Judging.{judged, texts_of}
 use Rattle.kg_field_tables.specs.declared.reference.Mention.TheVariants as mention
 use Rattle.kg_field_tables.specs.declared.shape.Shape.TheVariants as shape
 use Rattle.kg_field_tables.specs.declared.table.Field.{Field}
+use Rattle.kg_field_tables.specs.declared.default_value.DefaultValue.TheVariants.{Unset}
 use Rattle.kg_field_tables.specs.declared.table.Field.TheVariants.{Judged}
 use Rattle.kg_field_tables.specs.declared.table.Table.TheVariants as table
 use Rattle.kg_row_making.specs.Bases.{Again}
@@ -107,9 +108,9 @@ headers_again (test ∷ tests) valid ordered =
     ∙ ap (λ rule. map (λ entry. entry.1) (option_map_or (tests_in []) (option_and_then as_object (if is_some rule then None else Some (object members))) [])) (members_rule (test ∷ tests) valid ordered)
     ∙ members_again (test ∷ tests) valid ordered
 
-headers_inside : (tests : List HeaderTest) (path : List ℕ) → violations_inside (shown_headers tests) (Judged shape.Headers) path ≡ []
+headers_inside : (tests : List HeaderTest) (path : List ℕ) → violations_inside (shown_headers tests) (Judged shape.Headers Unset) path ≡ []
 headers_inside [] path = refl
-headers_inside (test ∷ tests) path = ap (λ d. violations_inside d (Judged shape.Headers) path) (shown_set test tests)
+headers_inside (test ∷ tests) path = ap (λ d. violations_inside d (Judged shape.Headers Unset) path) (shown_set test tests)
 
 -- ---- the whole route
 
@@ -198,10 +199,10 @@ module _ (route : Route) (valid : IsValidRoute route) where
   unfolding row_over text_in texts_in integer_in
   again now =
       same now route.name _ route.https _ route.methods _ route.hosts _ route.paths _ route.headers _ route.regex_priority _
-      (option_over text_kind.Name route.name name) (https_over route.https true)
+      (option_over text_kind.Name route.name name) (https_over route.https _)
       (texts_over text_kind.Method route.methods methods) (texts_over text_kind.RouteHost route.hosts hosts) (texts_over text_kind.RoutePath route.paths paths)
       (ap (λ tests. list_over tests []) (headers_again route.headers valid.headers valid.ordered) ∙ over_nothing route.headers)
-      (priority_over route.regex_priority (pos 0) valid.low valid.high)
+      (priority_over route.regex_priority _ valid.low valid.high)
 
 pub route_read_back : (route : Route) → IsValidRoute route → IsReadBack (row.Route route)
 route_read_back route valid = record { accepted = accepted route valid; again = again route valid }

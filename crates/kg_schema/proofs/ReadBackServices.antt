@@ -84,8 +84,8 @@ module _ (service : Service) (valid : IsValidService service) where
   unfolding row_over text_in whole_in
   again now =
       same now service.name _ service.host _ service.port _ service.path _ service.retries _
-      (option_over text_kind.Name service.name name) (text_over text_kind.Host service.host [] (fits_host service.host valid.host)) (whole_over 1 65535 service.port 80 valid.port.0 valid.port.1)
-      (option_over text_kind.Path service.path path) (whole_over 0 32767 service.retries 5 low valid.retries)
+      (option_over text_kind.Name service.name name) (text_over text_kind.Host service.host [] (fits_host service.host valid.host)) (whole_over 1 65535 service.port _ valid.port.0 valid.port.1)
+      (option_over text_kind.Path service.path path) (whole_over 0 32767 service.retries _ low valid.retries)
 
 pub service_read_back : (service : Service) → IsValidService service → IsReadBack (row.Service service)
 service_read_back service valid = record { accepted = accepted service valid; again = again service valid }

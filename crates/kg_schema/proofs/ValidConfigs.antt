@@ -2,6 +2,7 @@
 use Rattle.std.proofs.Common.{◌≡◌, ℕ, ◌≤◌, ◌==◌, nat_lt, Bool, true, false, not, ◌&&◌, ◌||◌, List, [], length, Option, Some, None, is_none, is_some, codes, refl, if◌then◌else◌, arith}
 use Rattle.std.proofs.lemmas.Bool.{and_from, and_parts}
 use Rattle.std.proofs.lemmas.Bool.Decides.{nat_tests}
+use Rattle.std.proofs.Math.Dec.{lit≤}
 use Rattle.std.specs.Option.{option_or}
 use Rattle.std.specs.Prelude.{IfSome, IsTrue}
 use Rattle.serde_json.specs.Data.{Data}
@@ -285,12 +286,12 @@ default_before plugin.Cors = record { origins = refl; methods = refl; headers = 
 default_before plugin.KeyAuth = record { key_names = refl; anonymous = tt }
 default_before plugin.BasicAuth = record { anonymous = tt }
 default_before plugin.IpRestriction = record { allow = refl; deny = refl }
-default_before plugin.RequestSizeLimiting = record { size = (omega arith, omega arith) }
+default_before plugin.RequestSizeLimiting = record { size = (lit≤ tt, lit≤ tt) }
 default_before plugin.Acl = record { allow = refl; deny = refl }
 default_before plugin.RateLimiting = record { second = tt; minute = tt; hour = tt; day = tt }
 default_before plugin.RequestTransformer = record { remove = refl; rename = refl; replace = refl; add = refl; append = refl }
 default_before plugin.ResponseTransformer = record { remove = refl; rename = refl; replace = refl; add = refl; append = refl }
-default_before plugin.RequestTermination = record { status_code = (omega arith, omega arith); message = tt; body = tt; content_type = tt }
+default_before plugin.RequestTermination = record { status_code = (lit≤ tt, lit≤ tt); message = tt; body = tt; content_type = tt }
 
 pub config_ok : (config : Data) (before : Config) → IsConfigBefore before → config_violations (config_over config before) ≡ [] → IsValidConfig (config_over config before)
 config_ok config (config_of.Cors before) old none = cors_ok config before old

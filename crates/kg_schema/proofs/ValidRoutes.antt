@@ -21,6 +21,8 @@ use Rattle.kg_row_making.specs.Bases.{BaseValue, New, Again, Word, Old, old_as, 
 use Rattle.kg_schema.specs.Between.{violation_if, fits_nothing, is_missing, route_violations}
 use Rattle.kg_row_making.specs.RowsBefore.{route_before}
 use Rattle.kg_schema.specs.Finished.{route_over}
+use Rattle.kg_field_tables.specs.Defaults.{default_integer}
+use Rattle.kg_field_tables.specs.declared.table.Table.TheVariants as table
 use Rattle.kg_bodies.specs.TableSettings.{integer_in, text_in, texts_in}
 use Rattle.kg_bodies.specs.Settings.{integer_at, text_at, texts_at, tests_at}
 use Rattle.kg_schema.specs.ValidBases.{AreIds, HasId, IsValidBase}
@@ -53,13 +55,14 @@ no_headers : AreOrdered []
 unfolding IsStrictlySortedBy
 no_headers = record { valid = All-nil IsValidHeaderTest; ordered = tt }
 
-middle : IsPriority (pos 0)
-middle = (record { le = tt }, record { le = tt })
+-- the default of the table lies within its bounds
+priority_ok : IsPriority (default_integer table.Route (codes "regex_priority"))
+priority_ok = (record { le = tt }, record { le = tt })
 
 before_ok : (base : BaseValue) (stamps : Stamps) → IsId stamps.id → IsValidBase kind.Route base → AreFields (route_before base stamps)
-before_ok (New id now) stamps is ok = record { id = is; service = is; name = tt; methods = refl; hosts = refl; paths = refl; headers = no_headers; priority = middle }
-before_ok (Again id created_at now) stamps is ok = record { id = is; service = is; name = tt; methods = refl; hosts = refl; paths = refl; headers = no_headers; priority = middle }
-before_ok (Word id text now) stamps is ok = record { id = is; service = is; name = takes_accepted text_kind.Name is_name takes_name text ok; methods = refl; hosts = refl; paths = refl; headers = no_headers; priority = middle }
+before_ok (New id now) stamps is ok = record { id = is; service = is; name = tt; methods = refl; hosts = refl; paths = refl; headers = no_headers; priority = priority_ok }
+before_ok (Again id created_at now) stamps is ok = record { id = is; service = is; name = tt; methods = refl; hosts = refl; paths = refl; headers = no_headers; priority = priority_ok }
+before_ok (Word id text now) stamps is ok = record { id = is; service = is; name = takes_accepted text_kind.Name is_name takes_name text ok; methods = refl; hosts = refl; paths = refl; headers = no_headers; priority = priority_ok }
 before_ok (Old (row.Route old) now) stamps is ok = record {
   id = ok.id;
   service = ok.service;
@@ -70,7 +73,7 @@ before_ok (Old (row.Route old) now) stamps is ok = record {
   headers = record { valid = ok.headers; ordered = ok.ordered };
   priority = (ok.low, ok.high);
 }
-before_ok (Old old now) stamps is ok = record { id = is; service = is; name = tt; methods = refl; hosts = refl; paths = refl; headers = no_headers; priority = middle }
+before_ok (Old old now) stamps is ok = record { id = is; service = is; name = tt; methods = refl; hosts = refl; paths = refl; headers = no_headers; priority = priority_ok }
 
 -- ---- something is set
 

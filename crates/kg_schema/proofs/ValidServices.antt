@@ -1,5 +1,6 @@
 -- A finished service is valid.
 use Rattle.std.proofs.Common.{◌≡◌, inl, inr, ℕ, ◌≤◌, ◌==◌, List, [], length, Option, Some, None, codes, refl, arith}
+use Rattle.std.proofs.Math.Dec.{lit≤}
 use Rattle.std.specs.Prelude.{IfSome, IsTrue}
 use Rattle.serde_json.specs.Data.{Data}
 use Rattle.kg_row_types.specs.Ids.{IsId}
@@ -18,6 +19,8 @@ use Rattle.kg_row_making.specs.Bases.{BaseValue, New, Again, Word, Old, stamps_o
 use Rattle.kg_schema.specs.Between.{doubles_url, violation_if, service_violations}
 use Rattle.kg_row_making.specs.RowsBefore.{service_before}
 use Rattle.kg_schema.specs.Finished.{address_over, service_over}
+use Rattle.kg_field_tables.specs.Defaults.{default_whole}
+use Rattle.kg_field_tables.specs.declared.table.Table.TheVariants as table
 use Rattle.kg_bodies.specs.TableSettings.{text_in, whole_in}
 use Rattle.kg_bodies.specs.Settings.{text_at, url_at, whole_at}
 use Rattle.kg_schema.specs.ValidBases.{HasId, IsValidBase}
@@ -50,14 +53,21 @@ record AreFields (service : Service) : Type 0 where
   path : IfSome service.path IsPath
   retries : AreRetries service.retries
 
+-- the defaults of the table lie within its bounds
+port_ok : IsPort (default_whole table.Service (codes "port"))
+port_ok = (lit≤ tt, lit≤ tt)
+
+retries_ok : AreRetries (default_whole table.Service (codes "retries"))
+retries_ok = (lit≤ tt, lit≤ tt)
+
 before_ok : (base : BaseValue) (stamps : Stamps) → IsId stamps.id → IsValidBase kind.Service base → AreFields (service_before base stamps)
-before_ok (New id now) stamps is ok = record { id = is; name = tt; host = inr refl; port = (omega arith, omega arith); path = tt; retries = (omega arith, omega arith) }
-before_ok (Again id created_at now) stamps is ok = record { id = is; name = tt; host = inr refl; port = (omega arith, omega arith); path = tt; retries = (omega arith, omega arith) }
-before_ok (Word id text now) stamps is ok = record { id = is; name = takes_accepted text_kind.Name is_name takes_name text ok; host = inr refl; port = (omega arith, omega arith); path = tt; retries = (omega arith, omega arith) }
+before_ok (New id now) stamps is ok = record { id = is; name = tt; host = inr refl; port = port_ok; path = tt; retries = retries_ok }
+before_ok (Again id created_at now) stamps is ok = record { id = is; name = tt; host = inr refl; port = port_ok; path = tt; retries = retries_ok }
+before_ok (Word id text now) stamps is ok = record { id = is; name = takes_accepted text_kind.Name is_name takes_name text ok; host = inr refl; port = port_ok; path = tt; retries = retries_ok }
 before_ok (Old (row.Service old) now) stamps is ok =
     let high = ok.retries in
     record { id = ok.id; name = ok.name; host = inl ok.host; port = ok.port; path = ok.path; retries = (omega arith, high) }
-before_ok (Old old now) stamps is ok = record { id = is; name = tt; host = inr refl; port = (omega arith, omega arith); path = tt; retries = (omega arith, omega arith) }
+before_ok (Old old now) stamps is ok = record { id = is; name = tt; host = inr refl; port = port_ok; path = tt; retries = retries_ok }
 
 host_ok : (o : Option (List ℕ)) → IfSome o IsHost → IfSome o (OrEmpty IsHost)
 host_ok None ok = tt

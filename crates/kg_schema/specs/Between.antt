@@ -30,16 +30,19 @@ use Rattle.kg_field_tables.specs.BrokenRules.{violations_in, named_plugin}
 use Rattle.kg_schema.specs.Finished.{row_over}
 use Rattle.kg_field_tables.specs.Judging.{is_set}
 use Rattle.kg_field_rules.specs.Rules.{BrokenRule}
-use Rattle.kg_bodies.specs.Settings.{text_at, id_at, inside}
+use Rattle.kg_bodies.specs.Settings.{id_at, inside}
+use Rattle.kg_bodies.specs.TableSettings.{text_in}
 use Rattle.kg_field_rules.specs.TextRules.{text_rule}
 use Rattle.kg_row_making.specs.declared.base.Links.{Links}
 use Rattle.kg_row_making.specs.declared.base.ParentField.{ParentField}
 use Rattle.kg_row_making.specs.declared.base.ParentField.TheVariants as parent
 use Rattle.kg_field_rules.specs.declared.rule.Rule.{Rule}
 use Rattle.kg_field_rules.specs.declared.rule.Rule.TheVariants.{Required, Fixed, Exclusive}
+use Rattle.kg_field_tables.specs.FieldTables.{field_of, table_of}
+use Rattle.kg_field_tables.specs.declared.shape.Shape.TheVariants as shape
+use Rattle.kg_field_tables.specs.declared.table.Field.{Field}
+use Rattle.kg_field_tables.specs.declared.table.Field.TheVariants.{Judged}
 use Rattle.kg_field_tables.specs.declared.table.Table.TheVariants as table
-use Rattle.kg_field_rules.specs.declared.text_kind.TextKind.{TextKind}
-use Rattle.kg_field_rules.specs.declared.text_kind.TextKind.TheVariants as text_kind
 
 -- the rule at this field, if it is broken
 abbrev pub violation_if : Bool → List ℕ → Rule → List BrokenRule
@@ -58,24 +61,29 @@ same_number a b = a == b
 abbrev pub id_violations : Data → BaseValue → List BrokenRule
 id_violations body base = violation_if (differ same_number (id_at body) (fixed_id base)) (codes "id") Fixed
 
--- the field that a word stands for, and how it is spelled: a plugin has none
-abbrev pub word_field : Kind → Option (List ℕ × TextKind)
-word_field kind.Service = Some (codes "name", text_kind.Name)
-word_field kind.Route = Some (codes "name", text_kind.Name)
-word_field kind.Consumer = Some (codes "username", text_kind.Username)
-word_field kind.KeyCred = Some (codes "key", text_kind.FreeText)
-word_field kind.BasicCred = Some (codes "username", text_kind.FreeText)
-word_field kind.Acl = Some (codes "group", text_kind.FreeText)
+-- the field that a word stands for: a plugin has none
+abbrev pub word_field : Kind → Option (List ℕ)
+word_field kind.Service = Some (codes "name")
+word_field kind.Route = Some (codes "name")
+word_field kind.Consumer = Some (codes "username")
+word_field kind.KeyCred = Some (codes "key")
+word_field kind.BasicCred = Some (codes "username")
+word_field kind.Acl = Some (codes "group")
 word_field kind.Plugin = None
+
+-- a text that breaks no rule of a field of texts
+abbrev pub takes_text : Field → List ℕ → Bool
+takes_text (Judged (shape.Text spelled) value) text = is_none (text_rule spelled text)
+takes_text _ text = false
 
 -- a text by which a row of this kind can be made
 abbrev pub accepts_word : Kind → List ℕ → Bool
-accepts_word kind text = option_map_or (λ field. is_none (text_rule field.1 text)) (word_field kind) false
+accepts_word kind text = option_map_or (λ field. takes_text (field_of (table_of kind None) field) text) (word_field kind) false
 
 -- the body says another word than the one by which the row is made
 abbrev pub word_violations : Kind → Data → BaseValue → List BrokenRule
 word_violations kind body base =
-    option_map_or (λ field. violation_if (differ bytes_eq (text_at field.1 field.0 body) (given_word base)) field.0 Fixed) (word_field kind) []
+    option_map_or (λ field. violation_if (differ bytes_eq (text_in (table_of kind None) field body) (given_word base)) field Fixed) (word_field kind) []
 
 -- the field that names a parent
 abbrev pub parent_text : ParentField → List ℕ

@@ -1,16 +1,17 @@
 //! Rows out of bodies: what a body sets, over an old row or the defaults, and the rules between its
 //! fields.
 
-ghost use Rattle.std.specs.Prelude.{◌≡◌, [], IfOk, IfErr, OnOk, fold, option_map};
+ghost use Rattle.std.specs.Prelude.{◌≡◌, [], IfOk, IfErr, OnOk, fold};
+ghost use Rattle.std.specs.Option.{option_copied};
 ghost use Rattle.std.specs.Str.{bytes_eq};
 ghost use Rattle.serde_json.specs.View.{view};
 ghost use Rattle.kg_row_making.specs.Bases.{base_of, given_word};
-ghost use Rattle.kg_schema.specs.Between.{accepts_word, differ, violations_between, id_violations, is_renamed, parent_text, row_violations, parent_violations, word_violations, word_field};
+ghost use Rattle.kg_schema.specs.Between.{accepts_word, differ, takes_text, violations_between, id_violations, is_renamed, parent_text, row_violations, parent_violations, word_violations, word_field};
 ghost use Rattle.kg_schema.specs.Finished.{row_over, with_set};
 ghost use Rattle.kg_row_making.specs.RowsBefore.{row_before};
 ghost use Rattle.kg_field_rules.specs.Rules.{tell};
 ghost use Rattle.kg_bodies.specs.Violations.{Tells};
-ghost use Rattle.kg_bodies.specs.Settings.{text_at};
+ghost use Rattle.kg_bodies.specs.TableSettings.{text_in};
 ghost use Rattle.kg_schema.specs.ValidBases.{IsValidBase};
 ghost use Rattle.kg_row_types.specs.Entities.{kind_of};
 ghost use Rattle.kg_row_types.specs.ValidRows.{IsValidRow};
@@ -33,13 +34,15 @@ use crate::row::route::{set_route, tell_route};
 use crate::row::service::{set_service, tell_service};
 use crate::row::tell::tell_if;
 pub use crate::row::valid::{base_has_id, finished_rows_are_valid, links_are_ids};
+use kg_bodies::by_table::text_in;
 use kg_bodies::fields::named_plugin;
 use kg_bodies::form::{Form, FormError};
-use kg_bodies::settings::{id_at, text_at};
+use kg_bodies::settings::id_at;
 use kg_field_rules::rule::Rule;
-use kg_field_rules::text_kind::TextKind;
 use kg_field_rules::text_rule::text_rule;
 use kg_field_rules::violations::Violations;
+use kg_field_tables::shape::Shape;
+use kg_field_tables::table::{Field, Table, field_of, table_of};
 use kg_row_making::base::{Base, Links, ParentField};
 use kg_row_making::before::row_before;
 use kg_row_types::entity::{Entity, Kind};
@@ -242,8 +245,19 @@ pub fn accepts_word(alloc: Global, kind: Kind, word: &Text) -> Result<bool, NoMe
     ensures { IfOk result (λ accepts. accepts ≡ accepts_word kind word.now) }
 {
     match word_field(kind) {
-        Some((_, spelled)) => Ok(text_rule(alloc, spelled, word.as_str())?.is_none()),
+        Some(field) => takes_text(alloc, field_of(table_of(kind, None), field), word),
         None => Ok(false),
+    }
+}
+
+fn takes_text(alloc: Global, field: Field, text: &Text) -> Result<bool, NoMemory>
+    ensures { IfOk result (λ takes. takes ≡ takes_text field text.now) }
+{
+    match field {
+        Field::Judged(Shape::Text(spelled), _) => {
+            Ok(text_rule(alloc, spelled, text.as_str())?.is_none())
+        }
+        _ => Ok(false),
     }
 }
 
@@ -258,8 +272,8 @@ fn tell_word(
     ensures { OnOk result (violations.new ≡ fold tell violations.old (word_violations kind (view body.now) (base_of base.now))) }
 {
     match word_field(kind) {
-        Some((field, spelled)) => {
-            let other = names_other(alloc, spelled, field, body, base)?;
+        Some(field) => {
+            let other = names_other(alloc, table_of(kind, None), field, body, base)?;
             tell_if(alloc, violations, other, field, Rule::Fixed)
         }
         None => Ok(()),
@@ -268,14 +282,14 @@ fn tell_word(
 
 fn names_other(
     alloc: Global,
-    spelled: TextKind,
+    table: Table,
     field: &str,
     body: &Value,
     base: &Base<'_>,
 ) -> Result<bool, NoMemory>
-    ensures { IfOk result (λ other. other ≡ differ bytes_eq (text_at spelled field.now (view body.now)) (given_word (base_of base.now))) }
+    ensures { IfOk result (λ other. other ≡ differ bytes_eq (text_in table field.now (view body.now)) (given_word (base_of base.now))) }
 {
-    match text_at(alloc, spelled, field, body)? {
+    match text_in(alloc, table, field, body)? {
         Some(text) => match base.given_word() {
             Some(word) => Ok(text.as_str() != word.as_str()),
             None => Ok(false),
@@ -284,17 +298,17 @@ fn names_other(
     }
 }
 
-// The field that a word stands for, and how it is spelled: a plugin has none.
-fn word_field(kind: Kind) -> Option<(&'static str, TextKind)>
-    ensures { option_map (λ field. (field.0.now, field.1)) result ≡ word_field kind }
+// The field that a word stands for: a plugin has none.
+fn word_field(kind: Kind) -> Option<&'static str>
+    ensures { option_copied result ≡ word_field kind }
 {
     match kind {
-        Kind::Service => Some(("name", TextKind::Name)),
-        Kind::Route => Some(("name", TextKind::Name)),
-        Kind::Consumer => Some(("username", TextKind::Username)),
-        Kind::KeyCred => Some(("key", TextKind::FreeText)),
-        Kind::BasicCred => Some(("username", TextKind::FreeText)),
-        Kind::Acl => Some(("group", TextKind::FreeText)),
+        Kind::Service => Some("name"),
+        Kind::Route => Some("name"),
+        Kind::Consumer => Some("username"),
+        Kind::KeyCred => Some("key"),
+        Kind::BasicCred => Some("username"),
+        Kind::Acl => Some("group"),
         Kind::Plugin => None,
     }
 }
