@@ -14,6 +14,7 @@ mod ReadUrls
 mod StoredHosts
 mod StoredIds
 mod StoredPasswords
+mod ToldLemmas
 mod ValidConfigs
 mod ValidConsumers
 mod ValidFinished

@@ -1,4 +1,5 @@
 pub mod Between
 pub mod Finished
 pub mod ReadBack
+pub mod ToldRules
 pub mod ValidBases

@@ -2,8 +2,10 @@
 //! and how a row is shown.
 #![tactic(auto)]
 
+mod refusals;
 mod row;
 
+pub use crate::refusals::violations_are_told_in_order;
 pub use crate::row::{
     accepts_word, base_has_id, finish, finish_under, finished_rows_are_valid, links_are_ids,
     shown_rows_are_read_back,
