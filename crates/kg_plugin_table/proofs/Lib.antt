@@ -1,0 +1,4 @@
+mod ChoiceLemmas
+mod ClosestLemmas
+mod KeyLemmas
+mod PlaceLemmas

@@ -1,0 +1,21 @@
+use Rattle.std.proofs.Common.{find, option_and_then, option_copied, sym, ap, ◌∙◌}
+use Rattle.kg_row_types.specs.declared.plugin.Scope.{Scope}
+use Rattle.kg_plugin_table.specs.Keys.{has_key, key_of}
+use Rattle.kg_plugin_table.proofs.ChoiceLemmas.{row_by_key}
+use Rattle.kg_plugin_table.proofs.generation.PluginGen.row_with.Goals as goal
+
+-- a part that is to be set isn't known
+pub returns-in_err-exact : goal.returns-in_err-exact
+returns-in_err-exact c =
+    let rows = c.args.self.now.rows in
+    ap option_copied c.from_residual.ensures
+    ∙ sym (row_by_key rows c.args.name c.args.scope.now c.args.parts
+    ∙ ap (option_and_then (λ (exact : Scope). find (has_key (key_of c.args.name exact)) rows)) (sym c.scope_with.ensures ∙ c.in_err-exact.was))
+
+-- the first row with the scope
+pub returns : goal.returns
+returns c =
+    let rows = c.args.self.now.rows in
+    c.row_of.ensures
+    ∙ sym (row_by_key rows c.args.name c.args.scope.now c.args.parts
+    ∙ ap (option_and_then (λ (exact : Scope). find (has_key (key_of c.args.name exact)) rows)) (sym c.scope_with.ensures ∙ c.in_ok-exact.was))

@@ -1,0 +1,5 @@
+pub mod Closest
+pub mod Keys
+pub mod Names
+pub mod PluginRows
+pub mod Precedence
