@@ -1,6 +1,6 @@
 #!/usr/bin/env bash
 # Measures what rows cost at 1,000, 10,000 and 100,000 of a kind: whole declarations, read by `kong_node dry`, and single
-# changes, made at the rows of such a declaration by the test program row_cases, where that stands in the repository.
+# changes, made by the test program row_cases at the rows of such a declaration.
 # usage: bench/rows.sh [ROWS ..]
 # For each number N it prints
 # - of N consumers with a key each, and of N services with a plugin each: the bytes of the line, the median processor time
@@ -11,7 +11,7 @@
 set -eu
 root="$(cd "$(dirname "${BASH_SOURCE[0]}")/.." && pwd)"
 "$root/bin/kong_node" --version > /dev/null
-[ ! -d "$root/crates/row_cases" ] || (cd "$root/crates/row_cases" && rt run row_cases) > /dev/null < /dev/null
+(cd "$root/crates/row_cases" && rt run row_cases) > /dev/null < /dev/null
 [ $# -gt 0 ] || set -- 1000 10000 100000
 exec python3 - "$root/crates" "$@" <<'PYTHON'
 import json
@@ -95,6 +95,5 @@ def single(rows):
 
 for rows in NUMBERS:
     whole(rows)
-    if os.path.isdir(f"{CRATES}/row_cases"):
-        single(rows)
+    single(rows)
 PYTHON
