@@ -3,10 +3,10 @@
 # changes, made by the test program row_cases at the rows of such a declaration.
 # usage: bench/rows.sh [ROWS ..]
 # For each number N it prints
-# - of N consumers with a key each, and of N services with a plugin each: the bytes of the line, the median processor time
-#   of three runs and the greatest resident memory of one;
-# - of each change: the processor time of one, as the median of three runs with N of them (at most 10,000) without that
-#   of the rows alone. A change that looks at all rows of a kind takes a hundred times as long at a hundred times the rows.
+# - of N consumers with a key each, and of N services with a plugin each: the bytes of the line, the least processor time
+#   of seven runs and the greatest resident memory of one;
+# - of each change: the processor time of one, as the least of seven runs with N of them without the least of the rows
+#   alone. A change that looks at all rows of a kind takes a hundred times as long at a hundred times the rows.
 # Both programs are built first where they aren't there. It needs python3.
 set -eu
 root="$(cd "$(dirname "${BASH_SOURCE[0]}")/.." && pwd)"
@@ -23,7 +23,7 @@ import tempfile
 CRATES, NUMBERS = sys.argv[1], [int(word) for word in sys.argv[2:]]
 DRY = [f"{CRATES}/kong_node/out/kong_node", "dry"]
 CASES = [f"{CRATES}/row_cases/out/row_cases"]
-MOST_CHANGES = 10_000
+RUNS = 7
 
 
 def consumers(rows):
@@ -69,28 +69,28 @@ def once(command, text, statuses):
     return round((used.ru_utime + used.ru_stime) * 1_000_000), used.ru_maxrss
 
 
-def median(command, text, statuses):
-    runs = [once(command, text, statuses) for _ in range(3)]
-    return sorted(time for time, _ in runs)[1], max(memory for _, memory in runs)
+def least(command, text, statuses):
+    # other work only adds to a run's time
+    runs = [once(command, text, statuses) for _ in range(RUNS)]
+    return min(time for time, _ in runs), max(memory for _, memory in runs)
 
 
 def whole(rows):
     # a declaration with plugins is judged in full, and then refused since they aren't run yet
     for name, lists, status in ("consumers with a key", consumers, 0), ("services with a plugin", services, 3):
         line = declaration(lists(rows)) + "\n"
-        time, memory = median(DRY, line, {status})
+        time, memory = least(DRY, line, {status})
         print(f"{rows} {name} each, {len(line)} bytes: {time} microseconds, {memory} KiB", flush=True)
 
 
 def single(rows):
-    count = min(rows, MOST_CHANGES)
     alone = {}
     for name, lists, line in CHANGES:
         text = f"limit {2 * rows}\ndeclare {declaration(lists(rows))}\n"
         if lists not in alone:
-            alone[lists] = median(CASES, text, {0})[0]
-        time = median(CASES, text + "".join(f"{line(i)}\n" for i in range(count)), {0})[0]
-        print(f"{rows} rows of each kind, {name}: {(time - alone[lists]) / count:.1f} microseconds", flush=True)
+            alone[lists] = least(CASES, text, {0})[0]
+        time = least(CASES, text + "".join(f"{line(i)}\n" for i in range(rows)), {0})[0]
+        print(f"{rows} rows of each kind, {name}: {(time - alone[lists]) / rows:.1f} microseconds", flush=True)
 
 
 for rows in NUMBERS:
