@@ -1,0 +1,5 @@
+pub mod CourseLemmas
+mod GiveLemmas
+pub mod OnlyUpstreamLemmas
+mod TurnLemmas
+mod WalkLemmas

@@ -1,0 +1,9 @@
+pub mod Course
+pub mod CourseLaws
+pub mod OnlyUpstream
+pub mod Phases
+pub mod Plain
+pub mod Told
+pub mod UpstreamMessage
+pub mod UpstreamPath
+pub mod Walks
