@@ -7,7 +7,6 @@ use Rattle.std.specs.List.{flat_map, AllByRecursion}
 use Rattle.kg_message.specs.declared.request.Request.{Request}
 use Rattle.kg_outside.specs.Moves.{with_front, with_end}
 use Rattle.kg_outside.proofs.Observed.{with_front-nil, with_front-append, with_end-nil, with_end-append}
-use Rattle.kg_router.specs.RouterRows.{RouterRows}
 use Rattle.kg_print.specs.Connection.{asks_for_end}
 use Rattle.kg_wire.specs.Messages.{Message, IsRequest, print_message, request_of}
 use Rattle.kg_wire.specs.Reading.{ReaderState, Takes, Grows, Refuses, IsEnded, IsNothing}
@@ -15,24 +14,27 @@ use Rattle.kg_wire.specs.Refusals.{IsBad, IsCut}
 use Rattle.kg_wire.proofs.RefusalLemmas.{bad_stays}
 use Rattle.kg_wire.specs.declared.reader.ReadError.TheVariants.{Bad as BadMessage, Cut as CutMessage}
 use Rattle.kg_plain.specs.Answered.{Answered, AnsweredOn, AnswersAll, AnswersFront, EndsAhead}
-use Rattle.kg_plain.specs.AnsweringSteps.{AnswersNext, EndsAt, IsReplied, StopsNext, asked_end}
+use Rattle.kg_plain.specs.AnsweringSteps.{AnswersNext, EndsAt, IsReplied, Replied, RepliedFront, StopsNext, asked_end}
+use Rattle.kg_plain.specs.DryReply.{GatewayRows, bad_request_text, reply_to}
 use Rattle.kg_plain.specs.Fronts.{IsFront}
-use Rattle.kg_plain.specs.Plain.{bad_request_text, reply_to}
 use Rattle.kg_plain.specs.Replies.{BeginsReply, StopsIn, asks, local_address, most_requests, texts}
 use Rattle.kg_plain.specs.declared.answers.End.{End}
 use Rattle.kg_plain.specs.declared.answers.End.TheVariants.{Closed, Asked, Spent, Bad, Cut}
 
 -- one more reply at the end
-pub texts-push : (rows : RouterRows) (answered n : ℕ) (ms : List Message) (m : Message) → n ≡ answered + length ms
-    → texts rows answered (ms ++ m ∷ []) ≡ texts rows answered ms ++ reply_to rows (n + 1 == most_requests) (request_of local_address m)
-texts-push rows answered n [] m is =
+pub texts-push : (rows : GatewayRows) (answered n : ℕ) (times : List ℕ) (ms : List Message) (time : ℕ) (m : Message) → n ≡ answered + length ms
+    → length times ≡ length ms
+    → texts rows answered (times ++ time ∷ []) (ms ++ m ∷ []) ≡ texts rows answered times ms ++ reply_to rows time (n + 1 == most_requests) (request_of local_address m)
+texts-push rows answered n [] [] time m is each =
     let e : answered ≡ n = omega arith in
-    append-nil (reply_to rows (answered + 1 == most_requests) (request_of local_address m))
-    ∙ ap (λ k. reply_to rows (k + 1 == most_requests) (request_of local_address m)) e
-texts-push rows answered n (x ∷ ms) m is =
-    let first = reply_to rows (answered + 1 == most_requests) (request_of local_address x) in
-    ap (λ t. first ++ t) (texts-push rows (answered + 1) n ms m (omega arith))
-    ∙ sym (append_assoc first (texts rows (answered + 1) ms) (reply_to rows (n + 1 == most_requests) (request_of local_address m)))
+    append-nil (reply_to rows time (answered + 1 == most_requests) (request_of local_address m))
+    ∙ ap (λ k. reply_to rows time (k + 1 == most_requests) (request_of local_address m)) e
+texts-push rows answered n [] (x ∷ ms) time m is each = absurd (omega arith)
+texts-push rows answered n (t ∷ times) [] time m is each = absurd (omega arith)
+texts-push rows answered n (t ∷ times) (x ∷ ms) time m is each =
+    let first = reply_to rows t (answered + 1 == most_requests) (request_of local_address x) in
+    ap (λ t. first ++ t) (texts-push rows (answered + 1) n times ms time m (omega arith) (omega arith))
+    ∙ sym (append_assoc first (texts rows (answered + 1) times ms) (reply_to rows time (n + 1 == most_requests) (request_of local_address m)))
 
 -- what holds of each member holds of one more
 pub each-push : {X : Type 0} (P : X → Type 0) (xs : List X) (x : X) → AllByRecursion P xs → P x → AllByRecursion P (xs ++ x ∷ [])
@@ -40,7 +42,7 @@ each-push P [] x all here = (here, tt)
 each-push P (y ∷ ys) x all here = (all.0, each-push P ys x all.1 here)
 
 -- no request was answered yet
-pub none_answered : (rows : RouterRows) (Read : List ℕ → Type 0) (ahead_before ahead_now written : Option (List ℕ)) (at : ℕ)
+pub none_answered : (rows : GatewayRows) (Read : List ℕ → Type 0) (ahead_before ahead_now written : Option (List ℕ)) (at : ℕ)
     → Read [] → ahead_before ≡ ahead_now → at ≡ 0 → AnsweredOn rows Read ahead_before ahead_now written written 0 at
 none_answered rows Read ahead_before ahead_now written at read same start = record {
   messages = [];
@@ -98,12 +100,12 @@ taken_means : (before now : ReaderState) (left later : Option (List ℕ)) (reque
 taken_means before now left later request t here = t.means ∙ ap (λ address. request_of address t.message) here
 
 -- it got its reply, and the connection goes on, or ends where it asks for that
-taken_replied : (rows : RouterRows) (Read : List ℕ → Type 0) (answered : ℕ) (before now : ReaderState) (left later w0 w1 : Option (List ℕ))
-    (request : Request) (time : ℕ) (end : Option End)
-    → before.address ≡ local_address → Takes before now left later request → Read (time ∷ [])
-    → w1 ≡ with_end w0 (reply_to rows (answered + 1 == most_requests) request) → end ≡ asked_end (asks_for_end request)
+taken_replied : (rows : GatewayRows) (Read : List ℕ → Type 0) (answered : ℕ) (before now : ReaderState) (left later w0 w1 : Option (List ℕ))
+    (request : Request) (end : Option End)
+    → before.address ≡ local_address → Takes before now left later request
+    → Replied rows (answered + 1 == most_requests) request Read w0 w1 → end ≡ asked_end (asks_for_end request)
     → AnswersNext rows Read answered before.at now.at (with_front before.held left) (with_front now.held later) w0 w1 end
-taken_replied rows Read answered before now left later w0 w1 request time end here t read reply is =
+taken_replied rows Read answered before now left later w0 w1 request end here t reply is =
     by_asked (asks_for_end request) refl end is
   where
     means : request ≡ request_of local_address t.message
@@ -113,13 +115,13 @@ taken_replied rows Read answered before now left later w0 w1 request time end he
         → IsReplied rows Read answered before.at now.at (with_front before.held left) (with_front now.held later) w0 w1 asked
     replied asked asking = record {
       message = t.message;
-      time = time;
+      time = reply.time;
       is = t.is;
       asking = ap asks_for_end (sym means) ∙ asking;
-      read = read;
+      read = reply.read;
       next = taken_next before now left later request t;
       at = t.at;
-      written = reply ∙ ap (λ q. with_end w0 (reply_to rows (answered + 1 == most_requests) q)) means;
+      written = reply.written ∙ ap (λ q. with_end w0 (reply_to rows reply.time (answered + 1 == most_requests) q)) means;
     }
 
     by_asked : (asked : Bool) → asks_for_end request ≡ asked → (end : Option End) → end ≡ asked_end (asks_for_end request)
@@ -143,73 +145,85 @@ taken_stands before now left later request t rest seen =
     by_cases (Some behind) e = (behind, cc)
 
 -- the reply to it was cut short
-taken_stopped : (rows : RouterRows) (Read : List ℕ → Type 0) (answered : ℕ) (before now : ReaderState) (left later w0 w1 : Option (List ℕ))
-    (request : Request) (time : ℕ) (front : List ℕ)
-    → before.address ≡ local_address → Takes before now left later request → Read (time ∷ [])
-    → IsFront front (reply_to rows (answered + 1 == most_requests) request) → w1 ≡ with_end w0 front
+taken_stopped : (rows : GatewayRows) (Read : List ℕ → Type 0) (answered : ℕ) (before now : ReaderState) (left later w0 w1 : Option (List ℕ))
+    (request : Request)
+    → before.address ≡ local_address → Takes before now left later request
+    → RepliedFront rows (answered + 1 == most_requests) request Read w0 w1
     → StopsNext rows Read answered (with_front before.held left) w0 w1
-taken_stopped rows Read answered before now left later w0 w1 request time front here t read begins written = record {
-  times = time ∷ [];
-  read = read;
-  part = front;
-  stops = λ rest seen. inr (inl (refl, begun rest (taken_stands before now left later request t rest seen)));
-  written = written;
+taken_stopped rows Read answered before now left later w0 w1 request here t reply = record {
+  times = reply.time ∷ [];
+  read = reply.read;
+  part = reply.front;
+  stops = λ rest seen. inr (inl (reply.time, refl, begun rest (taken_stands before now left later request t rest seen)));
+  written = reply.written;
 }
   where
-    begun : (rest : List ℕ) → (behind : List ℕ) × (rest ≡ print_message t.message ++ behind) → BeginsReply rows answered rest front
+    begun : (rest : List ℕ) → (behind : List ℕ) × (rest ≡ print_message t.message ++ behind) → BeginsReply rows reply.time answered rest reply.front
     begun rest (behind, stands) = record {
       next = t.message;
       behind = behind;
       is = t.is;
       stands = stands;
-      begins = subst (λ q. IsFront front (reply_to rows (answered + 1 == most_requests) q)) (taken_means before now left later request t here) begins;
+      begins = subst (λ q. IsFront reply.front (reply_to rows reply.time (answered + 1 == most_requests) q)) (taken_means before now left later request t here) reply.begins;
     }
 
 -- so it was answered, or its reply was cut short
-pub taken_ok : {E : Type 0} (result : Result (Option End) E) (rows : RouterRows) (Read : List ℕ → Type 0) (answered : ℕ) (before now : ReaderState)
-    (left later w0 w1 : Option (List ℕ)) (request : Request) (time : ℕ)
-    → before.address ≡ local_address → Takes before now left later request → Read (time ∷ [])
-    → OnOk result (w1 ≡ with_end w0 (reply_to rows (answered + 1 == most_requests) request))
+pub taken_ok : {E : Type 0} (result : Result (Option End) E) (rows : GatewayRows) (Read : List ℕ → Type 0) (answered : ℕ) (before now : ReaderState)
+    (left later w0 w1 : Option (List ℕ)) (request : Request)
+    → before.address ≡ local_address → Takes before now left later request
+    → OnOk result (Replied rows (answered + 1 == most_requests) request Read w0 w1)
     → IfOk result (λ end. end ≡ asked_end (asks_for_end request))
     → IfOk result (AnswersNext rows Read answered before.at now.at (with_front before.held left) (with_front now.held later) w0 w1)
-taken_ok (Ok end) rows Read answered before now left later w0 w1 request time here t read reply is =
-    taken_replied rows Read answered before now left later w0 w1 request time end here t read reply is
-taken_ok (Err e) rows Read answered before now left later w0 w1 request time here t read reply is = tt
+taken_ok (Ok end) rows Read answered before now left later w0 w1 request here t reply is =
+    taken_replied rows Read answered before now left later w0 w1 request end here t reply is
+taken_ok (Err e) rows Read answered before now left later w0 w1 request here t reply is = tt
 
-pub taken_err : {E : Type 0} (result : Result (Option End) E) (rows : RouterRows) (Read : List ℕ → Type 0) (answered : ℕ) (before now : ReaderState)
-    (left later w0 w1 : Option (List ℕ)) (request : Request) (time : ℕ)
-    → before.address ≡ local_address → Takes before now left later request → Read (time ∷ [])
-    → OnErr result ((front : List ℕ) × IsFront front (reply_to rows (answered + 1 == most_requests) request) × (w1 ≡ with_end w0 front))
+pub taken_err : {E : Type 0} (result : Result (Option End) E) (rows : GatewayRows) (Read : List ℕ → Type 0) (answered : ℕ) (before now : ReaderState)
+    (left later w0 w1 : Option (List ℕ)) (request : Request)
+    → before.address ≡ local_address → Takes before now left later request
+    → OnErr result (RepliedFront rows (answered + 1 == most_requests) request Read w0 w1)
     → OnErr result (StopsNext rows Read answered (with_front before.held left) w0 w1)
-taken_err (Ok end) rows Read answered before now left later w0 w1 request time here t read front = tt
-taken_err (Err e) rows Read answered before now left later w0 w1 request time here t read front =
-    taken_stopped rows Read answered before now left later w0 w1 request time front.0 here t read front.1 front.2
+taken_err (Ok end) rows Read answered before now left later w0 w1 request here t front = tt
+taken_err (Err e) rows Read answered before now left later w0 w1 request here t front =
+    taken_stopped rows Read answered before now left later w0 w1 request here t front
+
+-- a front of the reply was written at that time
+pub replied_front : (rows : GatewayRows) (last : Bool) (request : Request) (Read : List ℕ → Type 0) (before now : Option (List ℕ)) (time : ℕ) → Read (time ∷ [])
+    → ((front : List ℕ) × IsFront front (reply_to rows time last request) × (now ≡ with_end before front))
+    → RepliedFront rows last request Read before now
+replied_front rows last request Read before now time read (front, begins, written) = record { time = time; read = read; front = front; begins = begins; written = written }
+
+-- or nothing of it
+pub replied_nothing : (rows : GatewayRows) (last : Bool) (request : Request) (Read : List ℕ → Type 0) (written : Option (List ℕ)) (time : ℕ) → Read (time ∷ [])
+    → RepliedFront rows last request Read written written
+replied_nothing rows last request Read written time read =
+    record { time = time; read = read; front = []; begins = (reply_to rows time last request, refl); written = sym (with_end-nil written) }
 
 -- nothing was written
-pub nothing_stopped : (rows : RouterRows) (Read : List ℕ → Type 0) (answered : ℕ) (ahead written : Option (List ℕ)) → Read []
+pub nothing_stopped : (rows : GatewayRows) (Read : List ℕ → Type 0) (answered : ℕ) (ahead written : Option (List ℕ)) → Read []
     → StopsNext rows Read answered ahead written written
 nothing_stopped rows Read answered ahead written read = record {
   times = [];
   read = read;
   part = [];
-  stops = λ rest seen. inl (omega arith, refl);
+  stops = λ rest seen. inl (refl, refl);
   written = sym (with_end-nil written);
 }
 
 -- the text that answers a refused message was cut short
-bad_stopped : (rows : RouterRows) (Read : List ℕ → Type 0) (answered : ℕ) (ahead w0 w1 : Option (List ℕ)) (front : List ℕ) → Read []
+bad_stopped : (rows : GatewayRows) (Read : List ℕ → Type 0) (answered : ℕ) (ahead w0 w1 : Option (List ℕ)) (front : List ℕ) → Read []
     → ((rest : List ℕ) → ahead ≡ Some rest → IsBad rest) → IsFront front bad_request_text → w1 ≡ with_end w0 front
     → StopsNext rows Read answered ahead w0 w1
 bad_stopped rows Read answered ahead w0 w1 front read bad begins written = record {
   times = [];
   read = read;
   part = front;
-  stops = λ rest seen. inr (inr (omega arith, bad rest seen, begins));
+  stops = λ rest seen. inr (inr (refl, bad rest seen, begins));
   written = written;
 }
 
 -- the text that answers a refused message was written, or cut short
-pub bad_ok : {E : Type 0} (result : Result (Option End) E) (rows : RouterRows) (Read : List ℕ → Type 0) (answered at at_now place : ℕ)
+pub bad_ok : {E : Type 0} (result : Result (Option End) E) (rows : GatewayRows) (Read : List ℕ → Type 0) (answered at at_now place : ℕ)
     (ahead later w0 w1 : Option (List ℕ)) → Read [] → ((rest : List ℕ) → ahead ≡ Some rest → IsBad rest) → place ≡ at
     → IfOk result (λ end. (end ≡ Some (Bad place)) × (w1 ≡ with_end w0 bad_request_text))
     → IfOk result (AnswersNext rows Read answered at at_now ahead later w0 w1)
@@ -218,7 +232,7 @@ bad_ok (Ok end) rows Read answered at at_now place ahead later w0 w1 read bad he
     (here, record { read = read; is = bad; written = ok.1 })
 bad_ok (Err e) rows Read answered at at_now place ahead later w0 w1 read bad here ok = tt
 
-pub bad_err : {E : Type 0} (result : Result (Option End) E) (rows : RouterRows) (Read : List ℕ → Type 0) (answered : ℕ)
+pub bad_err : {E : Type 0} (result : Result (Option End) E) (rows : GatewayRows) (Read : List ℕ → Type 0) (answered : ℕ)
     (ahead w0 w1 : Option (List ℕ)) → Read [] → ((rest : List ℕ) → ahead ≡ Some rest → IsBad rest)
     → OnErr result ((front : List ℕ) × IsFront front bad_request_text × (w1 ≡ with_end w0 front))
     → OnErr result (StopsNext rows Read answered ahead w0 w1)
@@ -280,7 +294,7 @@ abbrev ReadsOn : (List ℕ → Type 0) → (List ℕ → Type 0) → (List ℕ �
 ReadsOn Before Once Now = (times more : List ℕ) → Before times → Once more → Now (times ++ more)
 
 -- one request more was answered
-answers_one_more : (rows : RouterRows) (Before Once Now : List ℕ → Type 0) (a b c w0 w1 w2 : Option (List ℕ)) (ms : List Message) (n at place : ℕ)
+answers_one_more : (rows : GatewayRows) (Before Once Now : List ℕ → Type 0) (a b c w0 w1 w2 : Option (List ℕ)) (ms : List Message) (n at place : ℕ)
     (asked : Bool) → length ms ≡ n → ReadsOn Before Once Now
     → Answered rows Before a b w0 w1 ms → (is : IsReplied rows Once n at place b c w1 w2 asked)
     → Answered rows Now a c w0 w2 (ms ++ is.message ∷ [])
@@ -292,9 +306,9 @@ answers_one_more rows Before Once Now a b c w0 w1 w2 ms n at place asked counted
   whole = moved_on a b c ms is.message before.whole is.next;
   written =
       is.written
-      ∙ ap (λ w. with_end w (reply_to rows (n + 1 == most_requests) (request_of local_address is.message))) before.written
-      ∙ sym (with_end-append w0 (texts rows 0 ms) (reply_to rows (n + 1 == most_requests) (request_of local_address is.message)))
-      ∙ ap (with_end w0) (sym (texts-push rows 0 n ms is.message (let e = counted in omega arith)));
+      ∙ ap (λ w. with_end w (reply_to rows is.time (n + 1 == most_requests) (request_of local_address is.message))) before.written
+      ∙ sym (with_end-append w0 (texts rows 0 before.times ms) (reply_to rows is.time (n + 1 == most_requests) (request_of local_address is.message)))
+      ∙ ap (with_end w0) (sym (texts-push rows 0 n before.times ms is.time is.message (let e = counted in omega arith) before.one_each));
 }
 
 -- so many bytes more were read
@@ -305,23 +319,19 @@ place_more ms m at place before now =
     omega (arith, length-append (flat_map print_message ms) (print_message m))
 
 -- it was answered, and doesn't ask for the end
-pub goes_on : (now rows : RouterRows) (Before Once Now : List ℕ → Type 0) (a b c w0 w1 w2 : Option (List ℕ)) (n at place : ℕ) → now ≡ rows
-    → ReadsOn Before Once Now → AnsweredOn rows Before a b w0 w1 n at → AnswersNext now Once n at place b c w1 w2 None
+pub goes_on : (rows : GatewayRows) (Before Once Now : List ℕ → Type 0) (a b c w0 w1 w2 : Option (List ℕ)) (n at place : ℕ)
+    → ReadsOn Before Once Now → AnsweredOn rows Before a b w0 w1 n at → AnswersNext rows Once n at place b c w1 w2 None
     → AnsweredOn rows Now a c w0 w2 (n + 1) place
-goes_on now rows Before Once Now a b c w0 w1 w2 n at place same on is next =
-    further (subst (λ r. IsReplied r Once n at place b c w1 w2 false) same next)
-  where
-    further : IsReplied rows Once n at place b c w1 w2 false → AnsweredOn rows Now a c w0 w2 (n + 1) place
-    further reply = record {
-      messages = is.messages ++ reply.message ∷ [];
-      counted = simp length-append (let e = is.counted in omega arith);
-      at_is = place_more is.messages reply.message at place is.at_is reply.at;
-      on = each-push (λ m. asks m ≡ false) is.messages reply.message is.on reply.asking;
-      answered = answers_one_more rows Before Once Now a b c w0 w1 w2 is.messages n at place false is.counted on is.answered reply;
-    }
+goes_on rows Before Once Now a b c w0 w1 w2 n at place on is reply = record {
+  messages = is.messages ++ reply.message ∷ [];
+  counted = simp length-append (let e = is.counted in omega arith);
+  at_is = place_more is.messages reply.message at place is.at_is reply.at;
+  on = each-push (λ m. asks m ≡ false) is.messages reply.message is.on reply.asking;
+  answered = answers_one_more rows Before Once Now a b c w0 w1 w2 is.messages n at place false is.counted on is.answered reply;
+}
 
 -- the clock wasn't read again
-answered_now : (rows : RouterRows) (Before Once Now : List ℕ → Type 0) (a b w0 w1 : Option (List ℕ)) (ms : List Message)
+answered_now : (rows : GatewayRows) (Before Once Now : List ℕ → Type 0) (a b w0 w1 : Option (List ℕ)) (ms : List Message)
     → ReadsOn Before Once Now → Once [] → Answered rows Before a b w0 w1 ms → Answered rows Now a b w0 w1 ms
 answered_now rows Before Once Now a b w0 w1 ms on none is = record {
   times = is.times;
@@ -333,7 +343,7 @@ answered_now rows Before Once Now a b w0 w1 ms on none is = record {
 }
 
 -- no request was read, and the answering ends so
-ends_at : (rows : RouterRows) (Before Once Now : List ℕ → Type 0) (Is : List ℕ → Type 0) (a b w0 w1 w2 : Option (List ℕ)) (n at : ℕ) (end : End)
+ends_at : (rows : GatewayRows) (Before Once Now : List ℕ → Type 0) (Is : List ℕ → Type 0) (a b w0 w1 w2 : Option (List ℕ)) (n at : ℕ) (end : End)
     → (is : AnsweredOn rows Before a b w0 w1 n at) → n < most_requests → ReadsOn Before Once Now → EndsAt Once Is b w1 w2 end
     → EndsAhead end is.messages b → AnswersAll rows Now a w0 w2 end
 ends_at rows Before Once Now Is a b w0 w1 w2 n at end is few on next ends = record {
@@ -347,41 +357,38 @@ ends_at rows Before Once Now Is a b w0 w1 w2 n at end is few on next ends = reco
 }
 
 -- the answering ends with the next message
-pub ends_next : (now rows : RouterRows) (Before Once Now : List ℕ → Type 0) (a b c w0 w1 w2 : Option (List ℕ)) (n at place : ℕ) (end : End)
-    → now ≡ rows → ReadsOn Before Once Now → AnsweredOn rows Before a b w0 w1 n at → n < most_requests
-    → AnswersNext now Once n at place b c w1 w2 (Some end) → AnswersAll rows Now a w0 w2 end
-ends_next now rows Before Once Now a b c w0 w1 w2 n at place Closed same on is few next =
+pub ends_next : (rows : GatewayRows) (Before Once Now : List ℕ → Type 0) (a b c w0 w1 w2 : Option (List ℕ)) (n at place : ℕ) (end : End)
+    → ReadsOn Before Once Now → AnsweredOn rows Before a b w0 w1 n at → n < most_requests
+    → AnswersNext rows Once n at place b c w1 w2 (Some end) → AnswersAll rows Now a w0 w2 end
+ends_next rows Before Once Now a b c w0 w1 w2 n at place Closed on is few next =
     ends_at rows Before Once Now (λ rest. rest ≡ []) a b w0 w1 w2 n at Closed is few on next
     (λ rest seen. (is.on, let e = is.counted in omega arith, next.is rest seen))
-ends_next now rows Before Once Now a b c w0 w1 w2 n at place Asked same on is few next =
-    asked (subst (λ r. IsReplied r Once n at place b c w1 w2 true) same next)
-  where
-    asked : IsReplied rows Once n at place b c w1 w2 true → AnswersAll rows Now a w0 w2 Asked
-    asked reply = record {
-      messages = is.messages ++ reply.message ∷ [];
+ends_next rows Before Once Now a b c w0 w1 w2 n at place Asked on is few next =
+    record {
+      messages = is.messages ++ next.message ∷ [];
       most = simp length-append (let e = is.counted in omega arith);
       ahead = c;
       replied = w2;
-      answered = answers_one_more rows Before Once Now a b c w0 w1 w2 is.messages n at place true is.counted on is.answered reply;
+      answered = answers_one_more rows Before Once Now a b c w0 w1 w2 is.messages n at place true is.counted on is.answered next;
       ends = λ rest seen. record {
         before = is.messages;
-        last = reply.message;
+        last = next.message;
         joined = refl;
         on = is.on;
-        asked = reply.asking;
+        asked = next.asking;
       };
       last = sym (with_end-nil w2);
     }
-ends_next now rows Before Once Now a b c w0 w1 w2 n at place Spent same on is few next = absurd next
-ends_next now rows Before Once Now a b c w0 w1 w2 n at place (Bad spot) same on is few next =
+ends_next rows Before Once Now a b c w0 w1 w2 n at place Spent on is few next = absurd next
+ends_next rows Before Once Now a b c w0 w1 w2 n at place (Bad spot) on is few next =
     ends_at rows Before Once Now IsBad a b w0 w1 w2 n at (Bad spot) is few on next.1
     (λ rest seen. (is.on, let e = is.counted in omega arith, next.1.is rest seen, next.0 ∙ is.at_is))
-ends_next now rows Before Once Now a b c w0 w1 w2 n at place (Cut have) same on is few next =
+ends_next rows Before Once Now a b c w0 w1 w2 n at place (Cut have) on is few next =
     ends_at rows Before Once Now (λ rest. IsCut rest × (have ≡ length rest)) a b w0 w1 w2 n at (Cut have) is few on next
     (λ rest seen. (is.on, let e = is.counted in omega arith, (next.is rest seen).0, (next.is rest seen).1))
 
 -- as many were answered as may be
-pub ends_spent : (rows : RouterRows) (Read : List ℕ → Type 0) (a b w0 w1 : Option (List ℕ)) (n at : ℕ)
+pub ends_spent : (rows : GatewayRows) (Read : List ℕ → Type 0) (a b w0 w1 : Option (List ℕ)) (n at : ℕ)
     → AnsweredOn rows Read a b w0 w1 n at → n ≡ most_requests → AnswersAll rows Read a w0 w1 Spent
 ends_spent rows Read a b w0 w1 n at is all = record {
   messages = is.messages;
@@ -394,40 +401,38 @@ ends_spent rows Read a b w0 w1 n at is all = record {
 }
 
 -- the answering is cut short at the next message
-pub stops_next : (now rows : RouterRows) (Before Once Now : List ℕ → Type 0) (a b w0 w1 w2 : Option (List ℕ)) (n at : ℕ) → now ≡ rows
-    → ReadsOn Before Once Now → AnsweredOn rows Before a b w0 w1 n at → n < most_requests → StopsNext now Once n b w1 w2
+pub stops_next : (rows : GatewayRows) (Before Once Now : List ℕ → Type 0) (a b w0 w1 w2 : Option (List ℕ)) (n at : ℕ)
+    → ReadsOn Before Once Now → AnsweredOn rows Before a b w0 w1 n at → n < most_requests → StopsNext rows Once n b w1 w2
     → AnswersFront rows Now a w0 w2
-stops_next now rows Before Once Now a b w0 w1 w2 n at same on is few next = record {
+stops_next rows Before Once Now a b w0 w1 w2 n at on is few next = record {
   messages = is.messages;
   few = let e = is.counted in omega arith;
   on = is.on;
-  times = is.answered.times ++ next.times;
+  earlier = is.answered.times;
+  since = next.times;
+  one_each = is.answered.one_each;
   read = on is.answered.times next.times is.answered.read next.read;
   each = is.answered.each;
   ahead = b;
   whole = is.answered.whole;
   part = next.part;
-  stops = λ rest seen.
-      subst (λ k. StopsIn rows k (length (is.answered.times ++ next.times)) rest next.part) (sym is.counted)
-      (subst (λ k. StopsIn rows n k rest next.part) readings
-      (subst (λ r. StopsIn r n (n + length next.times) rest next.part) same (next.stops rest seen)));
-  written = next.written ∙ ap (λ w. with_end w next.part) is.answered.written ∙ sym (with_end-append w0 (texts rows 0 is.messages) next.part);
+  stops = λ rest seen. subst (λ k. StopsIn rows k next.times rest next.part) (sym is.counted) (next.stops rest seen);
+  written =
+      next.written
+      ∙ ap (λ w. with_end w next.part) is.answered.written
+      ∙ sym (with_end-append w0 (texts rows 0 is.answered.times is.messages) next.part);
 }
-  where
-    readings : n + length next.times ≡ length (is.answered.times ++ next.times)
-    readings =
-        let each = is.answered.one_each in
-        let all = is.counted in
-        omega (arith, length-append is.answered.times next.times)
 
 -- the answering is cut short before the first request
-pub stopped_at_once : (rows : RouterRows) (Read : List ℕ → Type 0) (ahead written : Option (List ℕ)) → Read []
+pub stopped_at_once : (rows : GatewayRows) (Read : List ℕ → Type 0) (ahead written : Option (List ℕ)) → Read []
     → AnswersFront rows Read ahead written written
 stopped_at_once rows Read ahead written read = record {
   messages = [];
   few = omega arith;
   on = tt;
-  times = [];
+  earlier = [];
+  since = [];
+  one_each = refl;
   read = read;
   each = tt;
   ahead = ahead;
@@ -436,8 +441,3 @@ stopped_at_once rows Read ahead written read = record {
   stops = λ rest seen. inl (refl, refl);
   written = sym (with_end-nil written);
 }
-
--- a connection by the same rows
-pub front_with_rows : (now rows : RouterRows) (Read : List ℕ → Type 0) (left before written : Option (List ℕ)) → now ≡ rows
-    → AnswersFront now Read left before written → AnswersFront rows Read left before written
-front_with_rows now rows Read left before written same front = subst (λ r. AnswersFront r Read left before written) same front

@@ -1,2 +1,3 @@
 pub mod AnsweredLemmas
+pub mod EchoLemmas
 pub mod EndLemmas

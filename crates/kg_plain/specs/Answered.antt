@@ -3,23 +3,23 @@
 use Rattle.std.specs.Prelude.{◌≡◌, ℕ, ◌<◌, ◌≤◌, List, ◌++◌, length, Option, Some}
 use Rattle.std.specs.List.{flat_map, AllByRecursion}
 use Rattle.kg_outside.specs.Moves.{with_front, with_end}
-use Rattle.kg_router.specs.RouterRows.{RouterRows}
 use Rattle.kg_wire.specs.Messages.{Message, IsRequest, print_message}
+use Rattle.kg_plain.specs.DryReply.{GatewayRows}
 use Rattle.kg_plain.specs.Replies.{EndsSo, GoOn, StopsIn, last_text, most_requests, texts}
 use Rattle.kg_plain.specs.declared.answers.End.{End}
 
 -- these requests were read, each got its reply, and the clock was read once for each
-pub record Answered (rows : RouterRows) (Read : List ℕ → Type 0) (ahead_before ahead_now written_before written_now : Option (List ℕ))
+pub record Answered (rows : GatewayRows) (Read : List ℕ → Type 0) (ahead_before ahead_now written_before written_now : Option (List ℕ))
     (messages : List Message) : Type 0 where
   pub times : List ℕ
   pub one_each : length times ≡ length messages
   pub read : Read times
   pub each : AllByRecursion IsRequest messages
   pub whole : ahead_before ≡ with_front (flat_map print_message messages) ahead_now
-  pub written : written_now ≡ with_end written_before (texts rows 0 messages)
+  pub written : written_now ≡ with_end written_before (texts rows 0 times messages)
 
 -- so many were answered, none of which asks for the end, and so many bytes were read of them
-pub record AnsweredOn (rows : RouterRows) (Read : List ℕ → Type 0) (ahead_before ahead_now written_before written_now : Option (List ℕ))
+pub record AnsweredOn (rows : GatewayRows) (Read : List ℕ → Type 0) (ahead_before ahead_now written_before written_now : Option (List ℕ))
     (count at : ℕ) : Type 0 where
   pub messages : List Message
   pub counted : length messages ≡ count
@@ -32,7 +32,7 @@ abbrev pub EndsAhead : End → List Message → Option (List ℕ) → Type 0
 EndsAhead end messages ahead = (rest : List ℕ) → ahead ≡ Some rest → EndsSo end messages rest
 
 -- the requests are answered as far as they go
-pub record AnswersAll (rows : RouterRows) (Read : List ℕ → Type 0) (left_before written_before written_now : Option (List ℕ)) (end : End) : Type 0 where
+pub record AnswersAll (rows : GatewayRows) (Read : List ℕ → Type 0) (left_before written_before written_now : Option (List ℕ)) (end : End) : Type 0 where
   pub messages : List Message
   pub most : length messages ≤ most_requests
   pub ahead : Option (List ℕ)
@@ -41,16 +41,18 @@ pub record AnswersAll (rows : RouterRows) (Read : List ℕ → Type 0) (left_bef
   pub ends : EndsAhead end messages ahead
   pub last : written_now ≡ with_end replied (last_text end)
 
--- the answering was cut short behind these requests
-pub record AnswersFront (rows : RouterRows) (Read : List ℕ → Type 0) (left_before written_before written_now : Option (List ℕ)) : Type 0 where
+-- the answering was cut short behind these requests: the clock was read once for each, and since then
+pub record AnswersFront (rows : GatewayRows) (Read : List ℕ → Type 0) (left_before written_before written_now : Option (List ℕ)) : Type 0 where
   pub messages : List Message
   pub few : length messages < most_requests
   pub on : GoOn messages
-  pub times : List ℕ
-  pub read : Read times
+  pub earlier : List ℕ
+  pub since : List ℕ
+  pub one_each : length earlier ≡ length messages
+  pub read : Read (earlier ++ since)
   pub each : AllByRecursion IsRequest messages
   pub ahead : Option (List ℕ)
   pub whole : left_before ≡ with_front (flat_map print_message messages) ahead
   pub part : List ℕ
-  pub stops : (rest : List ℕ) → ahead ≡ Some rest → StopsIn rows (length messages) (length times) rest part
-  pub written : written_now ≡ with_end written_before (texts rows 0 messages ++ part)
+  pub stops : (rest : List ℕ) → ahead ≡ Some rest → StopsIn rows (length messages) since rest part
+  pub written : written_now ≡ with_end written_before (texts rows 0 earlier messages ++ part)

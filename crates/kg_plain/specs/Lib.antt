@@ -1,8 +1,6 @@
 pub mod Answered
 pub mod AnsweringSteps
-pub mod Echo
+pub mod DryReply
+pub mod Echoes
 pub mod Fronts
-pub mod Plain
 pub mod Replies
-pub mod UpstreamFields
-pub mod UpstreamPath

@@ -2,12 +2,11 @@
 -- docs/BEHAVIOUR.md, "The dry run").
 use Rattle.std.specs.Prelude.{◌≡◌, ℕ, ◌+◌, ◌<◌, ◌==◌, ◌⊎◌, Bool, true, false, List, [], ◌∷◌, ◌++◌, length}
 use Rattle.std.specs.List.{flat_map, AllByRecursion}
-use Rattle.kg_router.specs.RouterRows.{RouterRows}
 use Rattle.kg_print.specs.Connection.{asks_for_end}
 use Rattle.kg_wire.specs.Messages.{Message, IsRequest, print_message, request_of}
 use Rattle.kg_wire.specs.Refusals.{IsBad, IsCut}
+use Rattle.kg_plain.specs.DryReply.{GatewayRows, bad_request_text, reply_to}
 use Rattle.kg_plain.specs.Fronts.{IsFront}
-use Rattle.kg_plain.specs.Plain.{bad_request_text, reply_to}
 use Rattle.kg_plain.specs.declared.answers.End.{End}
 use Rattle.kg_plain.specs.declared.answers.End.TheVariants.{Closed, Asked, Spent, Bad, Cut}
 
@@ -19,11 +18,11 @@ most_requests = 1000
 abbrev pub local_address : List ℕ
 local_address = 127 ∷ 0 ∷ 0 ∷ 1 ∷ []
 
--- the replies to these requests, before which so many were answered
-abbrev pub texts : RouterRows → ℕ → List Message → List ℕ
-texts rows answered [] = []
-texts rows answered (m ∷ ms) =
-    reply_to rows (answered + 1 == most_requests) (request_of local_address m) ++ texts rows (answered + 1) ms
+-- the replies to these requests at these times, before which so many were answered
+abbrev pub texts : GatewayRows → ℕ → List ℕ → List Message → List ℕ
+texts rows answered (time ∷ times) (m ∷ ms) =
+    reply_to rows time (answered + 1 == most_requests) (request_of local_address m) ++ texts rows (answered + 1) times ms
+texts rows answered _ _ = []
 
 -- the request asks for the end of the connection
 abbrev pub asks : Message → Bool
@@ -61,19 +60,20 @@ last_text (Cut have) = []
 
 -- ---- the answering is cut short
 
--- a request stands next, behind so many that were answered, and these bytes are a front of the reply to it
-pub record BeginsReply (rows : RouterRows) (answered : ℕ) (rest part : List ℕ) : Type 0 where
+-- a request stands next, behind so many that were answered, and these bytes are a front of the reply to it at
+-- this time
+pub record BeginsReply (rows : GatewayRows) (time answered : ℕ) (rest part : List ℕ) : Type 0 where
   pub next : Message
   pub behind : List ℕ
   pub is : IsRequest next
   pub stands : rest ≡ print_message next ++ behind
-  pub begins : IsFront part (reply_to rows (answered + 1 == most_requests) (request_of local_address next))
+  pub begins : IsFront part (reply_to rows time (answered + 1 == most_requests) (request_of local_address next))
 
--- what was written behind so many whole replies, and how often the clock was read for all of it: nothing, with
--- one reading for each request that was answered; a front of the reply to the next request, with one
--- reading more; or a front of the 400 of a refused message
-abbrev pub StopsIn : RouterRows → ℕ → ℕ → List ℕ → List ℕ → Type 0
-StopsIn rows answered readings rest part =
-    ((readings ≡ answered) × (part ≡ []))
-    ⊎ ((readings ≡ answered + 1) × BeginsReply rows answered rest part)
-    ⊎ ((readings ≡ answered) × IsBad rest × IsFront part bad_request_text)
+-- what was written behind so many whole replies, and the readings of the clock since the last of them: nothing,
+-- with none; a front of the reply to the next request, with one; or a front of the 400 of a refused message,
+-- with none
+abbrev pub StopsIn : GatewayRows → ℕ → List ℕ → List ℕ → List ℕ → Type 0
+StopsIn rows answered since rest part =
+    ((since ≡ []) × (part ≡ []))
+    ⊎ ((time : ℕ) × (since ≡ time ∷ []) × BeginsReply rows time answered rest part)
+    ⊎ ((since ≡ []) × IsBad rest × IsFront part bad_request_text)

@@ -1,13 +1,13 @@
 //! The requests of one connection, answered one after another.
 
-ghost use Rattle.std.specs.Prelude.{◌≡◌, ◌<◌, ◌+◌, ◌==◌, ℕ, List as Sequence, [], ◌∷◌, None, Ok, IfOk, OnOk, OnErr, IsErrOf, if◌then◌else◌};
+ghost use Rattle.std.specs.Prelude.{◌≡◌, ◌<◌, ◌+◌, ◌==◌, ℕ, List as Sequence, None, Ok, IfOk, OnOk, OnErr, IsErrOf};
 ghost use Rattle.kg_outside.specs.Causes.{Rose};
 ghost use Rattle.kg_outside.specs.Moves.{with_end, with_front};
 ghost use Rattle.kg_print.specs.Connection.{asks_for_end};
 ghost use Rattle.kg_plain.specs.Answered.{AnswersAll, AnswersFront};
-ghost use Rattle.kg_plain.specs.AnsweringSteps.{AnswersNext, StopsNext, asked_end};
+ghost use Rattle.kg_plain.specs.AnsweringSteps.{AnswersNext, Replied, RepliedFront, StopsNext, asked_end};
 ghost use Rattle.kg_plain.specs.Fronts.{IsFront};
-ghost use Rattle.kg_plain.specs.Plain.{bad_request_text, reply_to};
+ghost use Rattle.kg_plain.specs.DryReply.{bad_request_text};
 ghost use Rattle.kg_plain.specs.Replies.{local_address, most_requests};
 ghost use Rattle.kg_plain.specs.declared.answers.End.{End as AnEnd};
 
@@ -78,13 +78,13 @@ impl From<Failed> for Stop {
 /// front of what comes next.
 pub fn answer_all<S: Source, K: Sink, T: Clock>(
     alloc: Global,
-    gateway: &mut Gateway,
+    gateway: &Gateway,
     source: &mut S,
     sink: &mut K,
     clock: &mut T,
 ) -> Result<End, Stop>
-    ensures ok { IfOk result (AnswersAll gateway.old (T.reads clock.old clock.new) (S.left source.old) (K.written sink.old) (K.written sink.new)) }
-    ensures err { OnErr result (AnswersFront gateway.old (T.reads clock.old clock.new) (S.left source.old) (K.written sink.old) (K.written sink.new)) }
+    ensures ok { IfOk result (AnswersAll gateway.now (T.reads clock.old clock.new) (S.left source.old) (K.written sink.old) (K.written sink.new)) }
+    ensures err { OnErr result (AnswersFront gateway.now (T.reads clock.old clock.new) (S.left source.old) (K.written sink.old) (K.written sink.new)) }
 
     // A fault is told exactly where the environment failed.
     ensures kept_read { OnOk result (S.faults source.new ≡ S.faults source.old) }
@@ -106,7 +106,7 @@ pub fn answer_all<S: Source, K: Sink, T: Clock>(
 // Reads and answers the next request, behind so many that were answered. `None`: the connection goes on.
 fn answer_next<S: Source, K: Sink, T: Clock>(
     alloc: Global,
-    gateway: &mut Gateway,
+    gateway: &Gateway,
     reader: &mut Reader,
     source: &mut S,
     sink: &mut K,
@@ -116,12 +116,11 @@ fn answer_next<S: Source, K: Sink, T: Clock>(
     requires fresh { reader.old.error ≡ None }
     requires address { reader.old.address ≡ local_address }
     requires few { answered < most_requests }
-    ensures rows { gateway.new ≡ gateway.old }
     ensures address { reader.new.address ≡ reader.old.address }
     ensures on { result ≡ Ok None → reader.new.error ≡ None }
-    ensures ok { IfOk result (AnswersNext gateway.old (T.reads clock.old clock.new) answered reader.old.at reader.new.at
+    ensures ok { IfOk result (AnswersNext gateway.now (T.reads clock.old clock.new) answered reader.old.at reader.new.at
         (with_front reader.old.held (S.left source.old)) (with_front reader.new.held (S.left source.new)) (K.written sink.old) (K.written sink.new)) }
-    ensures err { OnErr result (StopsNext gateway.old (T.reads clock.old clock.new) answered (with_front reader.old.held (S.left source.old))
+    ensures err { OnErr result (StopsNext gateway.now (T.reads clock.old clock.new) answered (with_front reader.old.held (S.left source.old))
         (K.written sink.old) (K.written sink.new)) }
     ensures kept_read { OnOk result (S.faults source.new ≡ S.faults source.old) }
     ensures kept_write { OnOk result (K.faults sink.new ≡ K.faults sink.old) }
@@ -143,55 +142,27 @@ fn answer_next<S: Source, K: Sink, T: Clock>(
     }
 }
 
-// Answers a request that was read. `None`: it doesn't ask for the end.
+// Answers a request that was read, with the clock read once before it. `None`: it doesn't ask for the end.
 fn answer_request<K: Sink, T: Clock>(
     alloc: Global,
-    gateway: &mut Gateway,
+    gateway: &Gateway,
     request: Request,
     last: bool,
     sink: &mut K,
     clock: &mut T,
 ) -> Result<Option<End>, Stop>
-    ensures rows { gateway.new ≡ gateway.old }
     ensures end { IfOk result (λ end. end ≡ asked_end (asks_for_end request)) }
-    ensures ok { OnOk result (K.written sink.new ≡ with_end (K.written sink.old) (reply_to gateway.old last request)) }
-    ensures err { OnErr result ((front : Sequence ℕ) × (IsFront front (reply_to gateway.old last request))
-        × (K.written sink.new ≡ with_end (K.written sink.old) front)) }
-    ensures clock { (time : ℕ) × T.reads clock.old clock.new (time ∷ []) }
+    ensures ok { OnOk result (Replied gateway.now last request (T.reads clock.old clock.new) (K.written sink.old) (K.written sink.new)) }
+    ensures err { OnErr result (RepliedFront gateway.now last request (T.reads clock.old clock.new) (K.written sink.old) (K.written sink.new)) }
     ensures kept { OnOk result (K.faults sink.new ≡ K.faults sink.old) }
     ensures read { IsErrOf result Stop.ReadFault → ⊥ }
     ensures write { IsErrOf result Stop.WriteFault → Rose (K.faults sink.old) (K.faults sink.new) }
 {
     let asks = asks_for_end(&request);
-    let written = answer_one(alloc, gateway, &request, last, sink, clock);
-    // let go by name: a short proof
-    drop(request);
-    written?;
-    if asks { Ok(Some(End::Asked)) } else { Ok(None) }
-}
-
-// Answers one request, with the clock read once before it.
-fn answer_one<K: Sink, T: Clock>(
-    alloc: Global,
-    gateway: &mut Gateway,
-    request: &Request,
-    last: bool,
-    sink: &mut K,
-    clock: &mut T,
-) -> Result<(), Stop>
-    ensures rows { gateway.new ≡ gateway.old }
-    ensures ok { OnOk result (K.written sink.new ≡ with_end (K.written sink.old) (reply_to gateway.old last request.now)) }
-    ensures err { OnErr result ((front : Sequence ℕ) × (IsFront front (reply_to gateway.old last request.now))
-        × (K.written sink.new ≡ with_end (K.written sink.old) front)) }
-    ensures clock { (time : ℕ) × T.reads clock.old clock.new (time ∷ []) }
-    ensures kept { OnOk result (K.faults sink.new ≡ K.faults sink.old) }
-    ensures read { IsErrOf result Stop.ReadFault → ⊥ }
-    ensures write { IsErrOf result Stop.WriteFault → Rose (K.faults sink.old) (K.faults sink.new) }
-{
-    clock.now();
-    let text = gateway.reply_to(alloc, request, last)?;
+    let time = clock.now();
+    let text = gateway.reply_to(alloc, request, time, last)?;
     write_whole(sink, text.as_slice())?;
-    Ok(())
+    if asks { Ok(Some(End::Asked)) } else { Ok(None) }
 }
 
 // Answers a message that is refused, behind so many bytes.

@@ -15,7 +15,6 @@ loop-count-init g c =
     record {
       fresh = ap (λ (r : ReaderState). r.error) made;
       address = ap (λ (r : ReaderState). r.address) made;
-      rows = refl;
       few = omega arith;
       answered =
           none_answered _ _ _ _ _ _ (g.met.T.Clock.reads_none c.args.clock.now)
@@ -29,7 +28,7 @@ loop-count-init g c =
 pub returns-in_err-end-clause-err : goal.returns-in_err-end-clause-err
 returns-in_err-end-clause-err g c =
     on_err _
-    (stops_next _ _ _ _ _ _ _ _ _ _ c.loop-count.count _ c.loop-count.invariant.rows (g.met.T.Clock.reads_on _ _ _)
+    (stops_next _ _ _ _ _ _ _ _ _ c.loop-count.count _ (g.met.T.Clock.reads_on _ _ _)
     c.loop-count.invariant.answered c.loop-count-test.true c.in_err-end.ensures.err)
 
 -- it goes on
@@ -39,10 +38,9 @@ loop-count-preserved g c =
     record {
       fresh = c.in_ok-end.ensures.on (ap Ok c.in-None.is);
       address = c.in_ok-end.ensures.address ∙ c.loop-count.invariant.address;
-      rows = c.in_ok-end.ensures.rows ∙ c.loop-count.invariant.rows;
       few = omega arith;
       answered =
-          goes_on _ _ _ _ _ _ _ _ _ _ _ c.loop-count.count _ _ c.loop-count.invariant.rows (g.met.T.Clock.reads_on _ _ _)
+          goes_on _ _ _ _ _ _ _ _ _ _ c.loop-count.count _ _ (g.met.T.Clock.reads_on _ _ _)
           c.loop-count.invariant.answered next;
       kept_read = c.in_ok-end.ensures.kept_read ∙ c.loop-count.invariant.kept_read;
       kept_write = c.in_ok-end.ensures.kept_write ∙ c.loop-count.invariant.kept_write;
@@ -51,5 +49,5 @@ loop-count-preserved g c =
 -- it ends
 pub returns-in-Some-clause-ok : goal.returns-in-Some-clause-ok
 returns-in-Some-clause-ok g c =
-    ends_next _ _ _ _ _ _ _ _ _ _ _ c.loop-count.count _ _ _ c.loop-count.invariant.rows (g.met.T.Clock.reads_on _ _ _)
+    ends_next _ _ _ _ _ _ _ _ _ _ c.loop-count.count _ _ _ (g.met.T.Clock.reads_on _ _ _)
     c.loop-count.invariant.answered c.loop-count-test.true (rw c.in-Some.is at c.in_ok-end.ensures.ok)

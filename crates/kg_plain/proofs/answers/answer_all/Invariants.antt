@@ -8,9 +8,8 @@ abbrev pub invariant-loop-count : goal.invariant-loop-count
 invariant-loop-count g l = record {
   fresh : l.reader.error ≡ None;
   address : l.reader.address ≡ local_address;
-  rows : l.gateway ≡ l.initial.gateway;
   few : l.count ≤ most_requests;
-  answered : AnsweredOn l.initial.gateway (g.T.Clock.reads l.initial.clock l.clock) (g.S.Source.left l.initial.source)
+  answered : AnsweredOn l.gateway (g.T.Clock.reads l.initial.clock l.clock) (g.S.Source.left l.initial.source)
       (with_front l.reader.held (g.S.Source.left l.source)) (g.K.Sink.written l.initial.sink) (g.K.Sink.written l.sink) l.count l.reader.at;
   kept_read : g.S.Source.faults l.source ≡ g.S.Source.faults l.initial.source;
   kept_write : g.K.Sink.faults l.sink ≡ g.K.Sink.faults l.initial.sink;

@@ -4,16 +4,14 @@ use Rattle.kg_plain.proofs.answers.answer_next.Goals as goal
 -- the request that was read is answered
 pub returns-in-Ok-Some-clause-ok : goal.returns-in-Ok-Some-clause-ok
 returns-in-Ok-Some-clause-ok g c =
-    let request = c.answer_request.ensures in
-    taken_ok c.answer_request.result _ _ c.args.answered _ _ _ _ _ _ c.in-Ok-Some.request request.clock.0 c.requires.address
-    (rw c.in-Ok-Some.field-0-is at c.in-Ok-Some.ensures.ok) request.clock.1 request.ok request.end
+    taken_ok c.answer_request.result _ _ c.args.answered _ _ _ _ _ _ c.in-Ok-Some.request c.requires.address
+    (rw c.in-Ok-Some.field-0-is at c.in-Ok-Some.ensures.ok) c.answer_request.ensures.ok c.answer_request.ensures.end
 
 -- or its reply is cut short
 pub returns-in-Ok-Some-clause-err : goal.returns-in-Ok-Some-clause-err
 returns-in-Ok-Some-clause-err g c =
-    let request = c.answer_request.ensures in
-    taken_err c.answer_request.result _ _ c.args.answered _ _ _ _ _ _ c.in-Ok-Some.request request.clock.0 c.requires.address
-    (rw c.in-Ok-Some.field-0-is at c.in-Ok-Some.ensures.ok) request.clock.1 request.err
+    taken_err c.answer_request.result _ _ c.args.answered _ _ _ _ _ _ c.in-Ok-Some.request c.requires.address
+    (rw c.in-Ok-Some.field-0-is at c.in-Ok-Some.ensures.ok) c.answer_request.ensures.err
 
 -- the source ended
 pub returns-in-Ok-None-clause-ok : goal.returns-in-Ok-None-clause-ok
