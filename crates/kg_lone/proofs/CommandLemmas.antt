@@ -1,7 +1,9 @@
 -- What the first line is answered.
-use Rattle.std.proofs.Common.{◌≡◌, ℕ, ◌≤◌, ◌⊎◌, ◌==◌, inl, inr, Bool, true, false, not, cond, List, [], ◌++◌, Option, Result, Ok, Err, IfOk, IfErr, length, refl, sym, ap, subst, ◌∙◌, arith}
+use Rattle.std.proofs.Common.{◌≡◌, ℕ, ◌≤◌, ◌⊎◌, inl, inr, Bool, true, false, not, cond, List, [], ◌++◌, Option, Result, Ok, Err, IfOk, IfErr, length, refl, sym, ap, subst, ◌∙◌, arith}
 use Rattle.std.specs.Prelude.{nat_lt}
+use Rattle.std.specs.List.{list_all}
 use Rattle.std.proofs.lemmas.Bool.{le-ltb, lt-ltb}
+use Rattle.kg_row_types.specs.declared.plugin.PluginRow.{PluginRow}
 use Rattle.kg_declare.specs.Histories.{AreInsertions}
 use Rattle.kg_declare.specs.Outcome.{Accepted, Refused, drawn_for, next, outcome}
 use Rattle.kg_declare.specs.Steps.{Answers, accepted_after}
@@ -11,13 +13,14 @@ use Rattle.kg_message.specs.declared.response.Response.{Response}
 use Rattle.kg_outside.specs.Moves.{with_end}
 use Rattle.kg_plain.specs.Fronts.{IsFront}
 use Rattle.kg_row_values.specs.declared.command.Command.{Command}
-use Rattle.kg_lone.specs.FirstCommands.{AnswersFirst, DrawsWithin, FirstLineCall, GivesCommands, IsRefused, first_outcome, most_line, not_built, refusal_line, run_outcome, without_plugins}
+use Rattle.kg_visit.specs.Phases.{runs}
+use Rattle.kg_lone.specs.FirstCommands.{AnswersFirst, DrawsWithin, FirstLineCall, GivesCommands, IsRefused, first_outcome, most_line, not_built, refusal_line, run_outcome, with_built_plugins}
 use Rattle.kg_lone.specs.FirstLine.{GivesLine, line_of}
-use Rattle.kg_lone.specs.InsertedRows.{has_plugin}
+use Rattle.kg_lone.specs.InsertedRows.{has_unbuilt}
 use Rattle.kg_lone.specs.LineSteps.{AnswersLine, DecidesMeant, RefusesWith, read_outcome}
 use Rattle.kg_lone.specs.declared.line.FirstLine.{FirstLine}
 use Rattle.kg_lone.specs.declared.line.FirstLine.TheVariants.{Whole, TooLong}
-use Rattle.kg_lone.proofs.InsertedLemmas.{plugins_are}
+use Rattle.kg_lone.proofs.InsertedLemmas.{built_are}
 
 -- ---- the line
 
@@ -35,16 +38,16 @@ read_is_first bytes TooLong left now limit draws is = rw (lt-ltb most_line (leng
 
 -- ---- how many ids are drawn
 
--- a plugin changes no count of ids
-drawn_without : (accepted : Accepted) → drawn_for (without_plugins accepted) ≡ accepted.drawn
-drawn_without accepted = by_test (length accepted.rows.plugins == 0)
+-- a plugin that isn't run changes no count of ids
+drawn_with_built : (accepted : Accepted) → drawn_for (with_built_plugins accepted) ≡ accepted.drawn
+drawn_with_built accepted = by_test (list_all (λ (row : PluginRow). runs row.config) accepted.rows.plugins)
   where
     by_test : (none : Bool) → drawn_for (cond none (Ok accepted) (Err (record { response = not_built; drawn = accepted.drawn }))) ≡ accepted.drawn
     by_test true = refl
     by_test false = refl
 
-drawn_next : (meant : Result Accepted Refused) → drawn_for (next without_plugins meant) ≡ drawn_for meant
-drawn_next (Ok accepted) = drawn_without accepted
+drawn_next : (meant : Result Accepted Refused) → drawn_for (next with_built_plugins meant) ≡ drawn_for meant
+drawn_next (Ok accepted) = drawn_with_built accepted
 drawn_next (Err refused) = refl
 
 -- a line that is decided so draws its ids
@@ -68,26 +71,26 @@ pub declines : (line : List ℕ) (now limit : ℕ) (drawn : List (List ℕ)) (e 
     → ((more : List (List ℕ)) → Answers (Err e) (outcome line now limit (drawn ++ more)) (length drawn))
     → AnswersLine (Err e) (run_outcome line now limit) drawn
 unfolding run_outcome
-declines line now limit drawn (error.Refused response) is = λ more. ap (next without_plugins) (is more)
+declines line now limit drawn (error.Refused response) is = λ more. ap (next with_built_plugins) (is more)
 declines line now limit drawn error.NoMemory is = λ more.
     let within = is more in
     let same = drawn_next (outcome line now limit (drawn ++ more)) in
     omega arith
 
--- the commands are those of the line, if none inserts a plugin
+-- the commands are those of the line, if none inserts a row of a plugin that isn't run
 pub accepts : (line : List ℕ) (now limit : ℕ) (drawn : List (List ℕ)) (commands : List Command) (result : Result (List Command) DeclareError)
     → AreInsertions limit commands
     → ((more : List (List ℕ)) → Answers (Ok commands) (outcome line now limit (drawn ++ more)) (length drawn))
-    → IfOk result (λ same. (same ≡ commands) × (has_plugin commands ≡ false))
-    → IfErr result (λ e. RefusesWith not_built e × (has_plugin commands ≡ true))
+    → IfOk result (λ same. (same ≡ commands) × (has_unbuilt commands ≡ false))
+    → IfErr result (λ e. RefusesWith not_built e × (has_unbuilt commands ≡ true))
     → AnswersLine result (run_outcome line now limit) drawn
 unfolding run_outcome
 accepts line now limit drawn commands (Ok same) are is ok err = λ more.
-    let none = plugins_are commands are.inserts ∙ ap not ok.1 in
-    ap (next without_plugins) (is more) ∙ rw none (ap (λ cs. Ok (accepted_after cs (length drawn))) (sym ok.0))
+    let none = built_are commands are.inserts ∙ ap not ok.1 in
+    ap (next with_built_plugins) (is more) ∙ rw none (ap (λ cs. Ok (accepted_after cs (length drawn))) (sym ok.0))
 accepts line now limit drawn commands (Err (error.Refused response)) are is ok err = λ more.
-    let some = plugins_are commands are.inserts ∙ ap not err.1 in
-    ap (next without_plugins) (is more) ∙ rw some (ap (λ r. Err (record { response = r; drawn = length drawn })) (sym err.0))
+    let some = built_are commands are.inserts ∙ ap not err.1 in
+    ap (next with_built_plugins) (is more) ∙ rw some (ap (λ r. Err (record { response = r; drawn = length drawn })) (sym err.0))
 accepts line now limit drawn commands (Err error.NoMemory) are is ok err = λ more.
     let same = drawn_next (outcome line now limit (drawn ++ more)) in
     let all = ap drawn_for (is more) in

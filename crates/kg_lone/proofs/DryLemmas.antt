@@ -5,7 +5,6 @@ use Rattle.std.proofs.lemmas.Grind.{flat_map-append}
 use Rattle.std.specs.List.{flat_map}
 use Rattle.kg_outside.specs.Moves.{with_front, with_end}
 use Rattle.kg_outside.proofs.Observed.{with_end-append, with_end-nil}
-use Rattle.kg_router.specs.RouterRows.{RouterRows}
 use Rattle.kg_wire.specs.Messages.{Message, IsReading, IsRequest, print_message, request_of}
 use Rattle.kg_wire.proofs.MessageLemmas.{reading_front}
 use Rattle.kg_declare.specs.Outcome.{Accepted, Refused as RefusedLine}
@@ -13,8 +12,8 @@ use Rattle.kg_declare.specs.Steps.{accepted_after}
 use Rattle.kg_row_values.specs.Rows.{rows_after}
 use Rattle.kg_row_values.specs.declared.command.Command.{Command}
 use Rattle.kg_plain.specs.Answered.{AnswersAll, AnswersFront}
+use Rattle.kg_plain.specs.DryReply.{GatewayRows, reply_to}
 use Rattle.kg_plain.specs.Fronts.{IsFront}
-use Rattle.kg_plain.specs.Plain.{reply_to}
 use Rattle.kg_plain.specs.Replies.{EndsSo, GoOn, StopsIn, last_text, local_address, most_requests, texts}
 use Rattle.kg_plain.specs.declared.answers.End.{End}
 use Rattle.kg_plain.specs.declared.answers.End.TheVariants.{Closed, Asked, Spent, Bad, Cut}
@@ -24,7 +23,7 @@ use Rattle.kg_lone.specs.DryRun.{IsCutShort, IsWhole}
 use Rattle.kg_lone.specs.DryText.{IsCutText, IsDryText, IsEndOf, StopsAtFirst, StopsBehind, WritesFront, WritesText, exit_of, most_rows, status_of}
 use Rattle.kg_lone.specs.FirstCommands.{AnswersFirst, BeginsRefusal, Decides, DrawsWithin, FirstLineCall, IsFirstStatus, StopsFirst, WritesRefusal, first_outcome, refusal_line}
 use Rattle.kg_lone.specs.FirstLine.{line_of, after_line}
-use Rattle.kg_lone.specs.InsertedRows.{router_rows}
+use Rattle.kg_lone.specs.InsertedRows.{gateway_rows}
 use Rattle.kg_lone.proofs.CommandLemmas.{within_decided}
 
 -- one outcome isn't two
@@ -43,19 +42,23 @@ at_time : (line : List ℕ) (now time : ℕ) (drawn : List (List ℕ)) (answer :
 at_time line now time drawn answer same is = subst (λ n. first_outcome line n most_rows drawn ≡ answer) same is
 
 -- the replies to some requests and then to others
-texts-append : (rows : RouterRows) (answered : ℕ) (ms zs : List Message)
-    → texts rows answered (ms ++ zs) ≡ texts rows answered ms ++ texts rows (answered + length ms) zs
-texts-append rows answered [] zs = ap (λ n. texts rows n zs) (let e : answered ≡ answered + 0 = omega arith in e)
-texts-append rows answered (m ∷ ms) zs =
-    let first = reply_to rows (answered + 1 == most_requests) (request_of local_address m) in
+texts-append : (rows : GatewayRows) (answered : ℕ) (times later : List ℕ) (ms zs : List Message) → length times ≡ length ms
+    → texts rows answered (times ++ later) (ms ++ zs) ≡ texts rows answered times ms ++ texts rows (answered + length ms) later zs
+texts-append rows answered [] later [] zs each = ap (λ n. texts rows n later zs) (let e : answered ≡ answered + 0 = omega arith in e)
+texts-append rows answered [] later (m ∷ ms) zs each = absurd (omega arith)
+texts-append rows answered (time ∷ times) later [] zs each = absurd (omega arith)
+texts-append rows answered (time ∷ times) later (m ∷ ms) zs each =
+    let first = reply_to rows time (answered + 1 == most_requests) (request_of local_address m) in
     ap (λ t. first ++ t)
-    (texts-append rows (answered + 1) ms zs
-    ∙ ap (λ n. texts rows (answered + 1) ms ++ texts rows n zs) (let e : answered + 1 + length ms ≡ answered + length (m ∷ ms) = omega arith in e))
-    ∙ sym (append_assoc first (texts rows (answered + 1) ms) (texts rows (answered + length (m ∷ ms)) zs))
+    (texts-append rows (answered + 1) times later ms zs (omega arith)
+    ∙ ap (λ n. texts rows (answered + 1) times ms ++ texts rows n later zs) (let e : answered + 1 + length ms ≡ answered + length (m ∷ ms) = omega arith in e))
+    ∙ sym (append_assoc first (texts rows (answered + 1) times ms) (texts rows (answered + length (m ∷ ms)) later zs))
 
 -- the replies to the requests at the front are the front of the replies
-texts_front : (rows : RouterRows) (ms ns : List Message) → (zs : List Message) × (ns ≡ ms ++ zs) → IsFront (texts rows 0 ms) (texts rows 0 ns)
-texts_front rows ms ns (zs, is) = (texts rows (0 + length ms) zs, ap (texts rows 0) is ∙ texts-append rows 0 ms zs)
+texts_front : (rows : GatewayRows) (times later all : List ℕ) (ms ns : List Message) → length times ≡ length ms → all ≡ times ++ later
+    → (zs : List Message) × (ns ≡ ms ++ zs) → IsFront (texts rows 0 times ms) (texts rows 0 all ns)
+texts_front rows times later all ms ns each same (zs, is) =
+    (texts rows (0 + length ms) later zs, ap (texts rows 0 all) is ∙ ap (λ ts. texts rows 0 ts (ms ++ zs)) same ∙ texts-append rows 0 times later ms zs each)
 
 -- a front of a front is one
 front_front : (a b c : List ℕ) → IsFront a b → IsFront b c → IsFront a c
@@ -122,18 +125,19 @@ pub replies_front : (Drew : List (List ℕ) → Type 0) (Read Later : List ℕ �
     (now : ℕ) (drawn : List (List ℕ)) (accepted : Accepted)
     → Decides (line_of bytes) now most_rows drawn (Ok accepted) → accepted.drawn ≡ length drawn → left ≡ Some (after_line bytes) → Drew drawn
     → ((times : List ℕ) → Later times → Read (now ∷ times))
-    → AnswersFront (router_rows accepted.rows) Later left before written → WritesFront Drew Read bytes before written
+    → AnswersFront (gateway_rows accepted.rows) Later left before written → WritesFront Drew Read bytes before written
 replies_front Drew Read Later bytes left before written now drawn accepted declared all told drew on is =
     let ahead = seen_ahead (after_line bytes) (flat_map print_message is.messages) left is.ahead told is.whole in
     record {
       drawn = drawn;
-      times = now ∷ is.times;
-      front = texts (router_rows accepted.rows) 0 is.messages ++ is.part;
+      times = now ∷ is.earlier ++ is.since;
+      front = texts (gateway_rows accepted.rows) 0 is.earlier is.messages ++ is.part;
       drew = drew;
-      read = on is.times is.read;
+      read = on (is.earlier ++ is.since) is.read;
       meant = inr (record {
         now = now;
-        later = is.times;
+        earlier = is.earlier;
+        since = is.since;
         clock = refl;
         accepted = accepted;
         declared = declared;
@@ -143,6 +147,7 @@ replies_front Drew Read Later bytes left before written now drawn accepted decla
         reading = record { whole = ahead.2; each = is.each };
         on = is.on;
         few = is.few;
+        one_each = is.one_each;
         part = is.part;
         stops = is.stops ahead.0 ahead.1;
         written = refl;
@@ -183,11 +188,11 @@ pub replies_written : (Drew : List (List ℕ) → Type 0) (Read Later : List ℕ
     → Decides (line_of bytes) now most_rows drawn (Ok accepted) → accepted.drawn ≡ length drawn
     → left ≡ Some (after_line bytes) → Drew drawn
     → ((times : List ℕ) → Later times → Read (now ∷ times))
-    → AnswersAll (router_rows accepted.rows) Later left before written end → WritesText Drew Read bytes before written (status_of end)
+    → AnswersAll (gateway_rows accepted.rows) Later left before written end → WritesText Drew Read bytes before written (status_of end)
 replies_written Drew Read Later bytes left before written now drawn accepted end declared all told drew on is =
     let done = is.answered in
     let ahead = seen_ahead (after_line bytes) (flat_map print_message is.messages) left is.ahead told done.whole in
-    let replies = texts (router_rows accepted.rows) 0 is.messages in
+    let replies = texts (gateway_rows accepted.rows) 0 done.times is.messages in
     record {
       drawn = drawn;
       times = now ∷ done.times;
@@ -215,7 +220,7 @@ replies_written Drew Read Later bytes left before written now drawn accepted end
     }
 
 -- the end that it came to
-pub end_of : (Later : List ℕ → Type 0) (bytes : List ℕ) (left before written : Option (List ℕ)) (rows : RouterRows) (end : End)
+pub end_of : (Later : List ℕ → Type 0) (bytes : List ℕ) (left before written : Option (List ℕ)) (rows : GatewayRows) (end : End)
     → left ≡ Some bytes → AnswersAll rows Later left before written end → IsEndOf bytes end
 end_of Later bytes left before written rows end told is =
     let ahead = seen_ahead bytes (flat_map print_message is.messages) left is.ahead told is.answered.whole in
@@ -262,10 +267,11 @@ alike bytes drawn times status text code other (inl a) (inl b) =
     let rows : a.accepted ≡ b.accepted = one_outcome (at_time (line_of bytes) a.now b.now drawn (Ok a.accepted) time.0 a.declared) b.declared in
     let same = same_whole (after_line bytes) a.messages b.messages a.rest b.rest a.end b.end a.reading b.reading a.most b.most a.ends b.ends in
     let ends = subst (EndsSo b.end a.messages) (sym same.1) (subst (λ ms. EndsSo b.end ms b.rest) (sym same.0) b.ends) in
-    same_ends (texts (router_rows a.accepted.rows) 0 a.messages) a.end b.end status code text other a.ending b.ending a.written
+    same_ends (texts (gateway_rows a.accepted.rows) 0 a.later a.messages) a.end b.end status code text other a.ending b.ending a.written
     (b.written
-    ∙ ap (λ (p : Accepted). texts (router_rows p.rows) 0 b.messages ++ last_text b.end) (sym rows)
-    ∙ ap (λ ms. texts (router_rows a.accepted.rows) 0 ms ++ last_text b.end) (sym same.0))
+    ∙ ap (λ (p : Accepted). texts (gateway_rows p.rows) 0 b.later b.messages ++ last_text b.end) (sym rows)
+    ∙ ap (λ ms. texts (gateway_rows a.accepted.rows) 0 b.later ms ++ last_text b.end) (sym same.0)
+    ∙ ap (λ ts. texts (gateway_rows a.accepted.rows) 0 ts a.messages ++ last_text b.end) (sym time.1))
     (one_end a.end b.end a.messages a.rest a.ends ends)
 
 -- ---- a run that was cut short, and one that goes on
@@ -305,66 +311,79 @@ one_more bytes ms m rest behind reading is stands = record {
   each = each-push IsRequest ms m reading.each is;
 }
 
--- behind the replies to these requests, in a text at the front of what the other run writes behind them
-front_behind : (rows : RouterRows) (ms ns : List Message) (part front text end : List ℕ)
-    → front ≡ texts rows 0 ms ++ part → text ≡ texts rows 0 ns ++ end
-    → IsFront (texts rows 0 ms ++ part) (texts rows 0 ns ++ end) → IsFront front text
-front_behind rows ms ns part front text end mine yours (rest, is) =
-    (rest, yours ∙ is ∙ ap (λ t. t ++ rest) (sym mine))
+-- behind some replies, in a text at the front of what the other run writes
+front_behind : (mine yours part front text end : List ℕ) → front ≡ mine ++ part → text ≡ yours ++ end
+    → IsFront (mine ++ part) (yours ++ end) → IsFront front text
+front_behind mine yours part front text end wrote writes (rest, is) = (rest, writes ∙ is ∙ ap (λ t. t ++ rest) (sym wrote))
+
+-- no readings but these
+no_more : (times later : List ℕ) (n : ℕ) → length (times ++ later) ≡ n → length times ≡ n → times ++ later ≡ times
+no_more times [] n all some = append-nil times
+no_more times (t ∷ later) n all some = absurd (omega (arith, length-append times (t ∷ later)))
 
 -- in the replies
-replies_go_on : (bytes : List ℕ) (rows : RouterRows) (ms ns : List Message) (rest left part front text : List ℕ) (end : End) (readings : ℕ)
-    → IsReading bytes ms rest → GoOn ms → length ms < most_requests → StopsIn rows (length ms) readings rest part
-    → IsReading bytes ns left → length ns ≤ most_requests → EndsSo end ns left
-    → front ≡ texts rows 0 ms ++ part → text ≡ texts rows 0 ns ++ last_text end → IsFront front text
-replies_go_on bytes rows ms ns rest left part front text end readings mine on few (inl (once, none)) yours most ends wrote writes =
+replies_go_on : (bytes : List ℕ) (rows : GatewayRows) (ms ns : List Message) (rest left part front text : List ℕ) (end : End) (earlier since more times : List ℕ)
+    → IsReading bytes ms rest → GoOn ms → length ms < most_requests → length earlier ≡ length ms → StopsIn rows (length ms) since rest part
+    → IsReading bytes ns left → length ns ≤ most_requests → EndsSo end ns left → length times ≡ length ns → times ≡ (earlier ++ since) ++ more
+    → front ≡ texts rows 0 earlier ms ++ part → text ≡ texts rows 0 times ns ++ last_text end → IsFront front text
+replies_go_on bytes rows ms ns rest left part front text end earlier since more times mine on few one_each (inl (once, none)) yours most ends also same wrote writes =
     let all = front_of_whole bytes ms ns rest left mine yours (omega arith) (all_on ms on) (is_last end ns left ends) in
     let before = reading_front bytes ms ns rest left mine yours all in
-    let replies = texts_front rows ms ns (before.0, before.1) in
-    front_behind rows ms ns part front text (last_text end) wrote writes
-    (front_within (texts rows 0 ms ++ part) (texts rows 0 ms) (texts rows 0 ns) (last_text end)
-    ([], sym (append-nil (texts rows 0 ms)) ∙ ap (λ t. texts rows 0 ms ++ t) (sym none) ∙ sym (append-nil (texts rows 0 ms ++ part))) replies)
-replies_go_on bytes rows ms ns rest left part front text end readings mine on few (inr (inl (once, is))) yours most ends wrote writes =
+    let read : times ≡ earlier ++ more = same ∙ ap (λ ts. (earlier ++ ts) ++ more) once ∙ ap (λ ts. ts ++ more) (append-nil earlier) in
+    let replies = texts_front rows earlier more times ms ns one_each read (before.0, before.1) in
+    let whole = texts rows 0 earlier ms in
+    front_behind whole (texts rows 0 times ns) part front text (last_text end) wrote writes
+    (front_within (whole ++ part) whole (texts rows 0 times ns) (last_text end)
+    ([], sym (append-nil whole) ∙ ap (λ t. whole ++ t) (sym none) ∙ sym (append-nil (whole ++ part))) replies)
+replies_go_on bytes rows ms ns rest left part front text end earlier since more times mine on few one_each (inr (inl (time, once, is))) yours most ends also same wrote writes =
     let longer = one_more bytes ms is.next rest is.behind mine is.is is.stands in
     let len : length (ms ++ is.next ∷ []) ≤ most_requests = simp length-append (omega arith) in
     let only : OnlyLastMayAsk (ms ++ is.next ∷ []) = record { before = ms; last = is.next ∷ []; joined = refl; on = on; one = omega arith } in
     let all = front_of_whole bytes (ms ++ is.next ∷ []) ns is.behind left longer yours len only (is_last end ns left ends) in
     let before = reading_front bytes (ms ++ is.next ∷ []) ns is.behind left longer yours all in
-    let replies = texts_front rows (ms ++ is.next ∷ []) ns (before.0, before.1) in
-    front_behind rows ms ns part front text (last_text end) wrote writes
-    (front_within (texts rows 0 ms ++ part) (texts rows 0 (ms ++ is.next ∷ [])) (texts rows 0 ns) (last_text end) (
+    let read : times ≡ (earlier ++ time ∷ []) ++ more = same ∙ ap (λ ts. (earlier ++ ts) ++ more) once in
+    let each : length (earlier ++ time ∷ []) ≡ length (ms ++ is.next ∷ []) = simp length-append (omega arith) in
+    let replies = texts_front rows (earlier ++ time ∷ []) more times (ms ++ is.next ∷ []) ns each read (before.0, before.1) in
+    let whole = texts rows 0 earlier ms in
+    front_behind whole (texts rows 0 times ns) part front text (last_text end) wrote writes
+    (front_within (whole ++ part) (texts rows 0 (earlier ++ time ∷ []) (ms ++ is.next ∷ [])) (texts rows 0 times ns) (last_text end) (
       is.begins.0,
-      texts-push rows 0 (length ms) ms is.next (omega arith)
-          ∙ ap (λ t. texts rows 0 ms ++ t) is.begins.1
-          ∙ sym (append_assoc (texts rows 0 ms) part is.begins.0),
+      texts-push rows 0 (length ms) earlier ms time is.next (omega arith) one_each
+          ∙ ap (λ t. whole ++ t) is.begins.1
+          ∙ sym (append_assoc whole part is.begins.0),
     ) replies)
-replies_go_on bytes rows ms ns rest left part front text end readings mine on few (inr (inr (once, bad, begins))) yours most ends wrote writes =
+replies_go_on bytes rows ms ns rest left part front text end earlier since more times mine on few one_each (inr (inr (once, bad, begins))) yours most ends also same wrote writes =
     let refused : End = Bad (length (flat_map print_message ms)) in
     let here : EndsSo refused ms rest = (on, few, bad, refl) in
-    let same = same_whole bytes ms ns rest left refused end mine yours (omega arith) most here ends in
-    let there = subst (EndsSo end ms) (sym same.1) (subst (λ xs. EndsSo end xs left) (sym same.0) ends) in
+    let one = same_whole bytes ms ns rest left refused end mine yours (omega arith) most here ends in
+    let there = subst (EndsSo end ms) (sym one.1) (subst (λ xs. EndsSo end xs left) (sym one.0) ends) in
     let closes : end ≡ refused = one_end end refused ms rest there here in
-    front_behind rows ms ns part front text (last_text end) wrote writes (
+    let read : times ≡ earlier ++ more = same ∙ ap (λ ts. (earlier ++ ts) ++ more) once ∙ ap (λ ts. ts ++ more) (append-nil earlier) in
+    let count : length (earlier ++ more) ≡ length ms = ap length (sym read) ∙ also ∙ ap length (sym one.0) in
+    let these : times ≡ earlier = read ∙ no_more earlier more (length ms) count one_each in
+    let whole = texts rows 0 earlier ms in
+    front_behind whole (texts rows 0 times ns) part front text (last_text end) wrote writes (
       begins.0,
-      ap (λ xs. texts rows 0 xs ++ last_text end) (sym same.0)
-          ∙ ap (λ e. texts rows 0 ms ++ last_text e) closes
-          ∙ ap (λ t. texts rows 0 ms ++ t) begins.1
-          ∙ sym (append_assoc (texts rows 0 ms) part begins.0),
+      ap (λ xs. texts rows 0 times xs ++ last_text end) (sym one.0)
+          ∙ ap (λ ts. texts rows 0 ts ms ++ last_text end) these
+          ∙ ap (λ e. whole ++ last_text e) closes
+          ∙ ap (λ t. whole ++ t) begins.1
+          ∙ sym (append_assoc whole part begins.0),
     )
 
 -- behind the first line
 behind_goes_on : (bytes : List ℕ) (drawn more : List (List ℕ)) (times later : List ℕ) (status : ℕ) (front text : List ℕ)
     → StopsBehind bytes drawn times front → IsDryText bytes (drawn ++ more) (times ++ later) status text → IsFront front text
 behind_goes_on bytes drawn more times later status front text s (inr r) =
-    let time = first_time s.now r.now (s.later ++ later) [] (sym (ap (λ ts. ts ++ later) s.clock) ∙ r.clock) in
+    let time = first_time s.now r.now ((s.earlier ++ s.since) ++ later) [] (sym (ap (λ ts. ts ++ later) s.clock) ∙ r.clock) in
     absurd (not_both (at_time (line_of bytes) s.now r.now (drawn ++ more) (Ok s.accepted) time.0 (s.declared more)) r.declared)
 behind_goes_on bytes drawn more times later status front text s (inl a) =
-    let time = first_time s.now a.now (s.later ++ later) a.later (sym (ap (λ ts. ts ++ later) s.clock) ∙ a.clock) in
+    let time = first_time s.now a.now ((s.earlier ++ s.since) ++ later) a.later (sym (ap (λ ts. ts ++ later) s.clock) ∙ a.clock) in
     let same : s.accepted ≡ a.accepted =
     one_outcome (at_time (line_of bytes) s.now a.now (drawn ++ more) (Ok s.accepted) time.0 (s.declared more)) a.declared in
-    replies_go_on (after_line bytes) (router_rows s.accepted.rows) s.messages a.messages s.rest a.rest s.part front text a.end (length s.later)
-    s.reading s.on s.few s.stops a.reading a.most a.ends s.written
-    (a.written ∙ ap (λ (p : Accepted). texts (router_rows p.rows) 0 a.messages ++ last_text a.end) (sym same))
+    replies_go_on (after_line bytes) (gateway_rows s.accepted.rows) s.messages a.messages s.rest a.rest s.part front text a.end s.earlier s.since later a.later
+    s.reading s.on s.few s.one_each s.stops a.reading a.most a.ends a.one_each (sym time.1) s.written
+    (a.written ∙ ap (λ (p : Accepted). texts (gateway_rows p.rows) 0 a.later a.messages ++ last_text a.end) (sym same))
 
 -- what it wrote is a front of what the other writes
 pub goes_on : (bytes : List ℕ) (drawn more : List (List ℕ)) (times later : List ℕ) (status : ℕ) (front text : List ℕ)
@@ -481,28 +500,28 @@ pub answered_text : (Drew : List (List ℕ) → Type 0) (Read Later : List ℕ �
     (now : ℕ) (drawn : List (List ℕ)) (commands : List Command) (result : Result End ℕ)
     → AnswersFirst (first_call now bytes left before middle drawn) (Ok commands) → middle ≡ before → Drew drawn
     → ((times : List ℕ) → Later times → Read (now ∷ times))
-    → IfOk result (AnswersAll (router_rows (rows_after commands)) Later left middle written)
+    → IfOk result (AnswersAll (gateway_rows (rows_after commands)) Later left middle written)
     → IfOk result (λ end. WritesText Drew Read bytes before written (status_of end))
 answered_text Drew Read Later bytes left before middle written now drawn commands (Err status) gives same drew on ended = tt
 answered_text Drew Read Later bytes left before middle written now drawn commands (Ok end) gives same drew on ended =
     replies_written Drew Read Later bytes left before written now drawn (accepted_after commands (length drawn)) end
     gives.declared refl gives.after drew on
-    (subst (λ w. AnswersAll (router_rows (rows_after commands)) Later left w written end) same ended)
+    (subst (λ w. AnswersAll (gateway_rows (rows_after commands)) Later left w written end) same ended)
 
 pub answered_end : (Later : List ℕ → Type 0) (bytes : List ℕ) (left before middle written : Option (List ℕ))
     (now : ℕ) (drawn : List (List ℕ)) (commands : List Command) (result : Result End ℕ)
     → AnswersFirst (first_call now bytes left before middle drawn) (Ok commands)
-    → IfOk result (AnswersAll (router_rows (rows_after commands)) Later left middle written) → IfOk result (IsEndOf (after_line bytes))
+    → IfOk result (AnswersAll (gateway_rows (rows_after commands)) Later left middle written) → IfOk result (IsEndOf (after_line bytes))
 answered_end Later bytes left before middle written now drawn commands (Err status) gives ended = tt
 answered_end Later bytes left before middle written now drawn commands (Ok end) gives ended =
-    end_of Later (after_line bytes) left middle written (router_rows (rows_after commands)) end gives.after ended
+    end_of Later (after_line bytes) left middle written (gateway_rows (rows_after commands)) end gives.after ended
 
 pub answered_front : (Drew : List (List ℕ) → Type 0) (Read Later : List ℕ → Type 0) (bytes : List ℕ) (left before middle written : Option (List ℕ))
     (now : ℕ) (drawn : List (List ℕ)) (commands : List Command)
     → AnswersFirst (first_call now bytes left before middle drawn) (Ok commands) → middle ≡ before → Drew drawn
     → ((times : List ℕ) → Later times → Read (now ∷ times))
-    → AnswersFront (router_rows (rows_after commands)) Later left middle written → WritesFront Drew Read bytes before written
+    → AnswersFront (gateway_rows (rows_after commands)) Later left middle written → WritesFront Drew Read bytes before written
 answered_front Drew Read Later bytes left before middle written now drawn commands gives same drew on front =
     replies_front Drew Read Later bytes left before written now drawn (accepted_after commands (length drawn))
     gives.declared refl gives.after drew on
-    (subst (λ w. AnswersFront (router_rows (rows_after commands)) Later left w written) same front)
+    (subst (λ w. AnswersFront (gateway_rows (rows_after commands)) Later left w written) same front)

@@ -4,7 +4,7 @@ use Rattle.std.specs.Prelude.{◌≡◌, ℕ, ◌<◌, ◌≤◌, ◌⊎◌, Lis
 use Rattle.kg_declare.specs.Outcome.{Accepted, Refused as RefusedLine}
 use Rattle.kg_lone.specs.FirstCommands.{BeginsRefusal, Decides, DrawsWithin, first_outcome, refusal_line}
 use Rattle.kg_lone.specs.FirstLine.{line_of, after_line}
-use Rattle.kg_lone.specs.InsertedRows.{router_rows}
+use Rattle.kg_lone.specs.InsertedRows.{gateway_rows}
 use Rattle.kg_outside.specs.Moves.{with_end}
 use Rattle.kg_plain.specs.Replies.{EndsSo, GoOn, StopsIn, last_text, most_requests, texts}
 use Rattle.kg_plain.specs.declared.answers.End.{End}
@@ -44,7 +44,7 @@ pub record IsAnsweredRun (bytes : List ℕ) (drawn : List (List ℕ)) (times : L
   pub end : End
   pub ends : EndsSo end messages rest
   pub one_each : length later ≡ length messages
-  pub written : text ≡ texts (router_rows accepted.rows) 0 messages ++ last_text end
+  pub written : text ≡ texts (gateway_rows accepted.rows) 0 later messages ++ last_text end
   pub ending : status ≡ status_of end
 
 -- the first line is refused
@@ -74,11 +74,13 @@ pub record StopsAtFirst (bytes : List ℕ) (drawn : List (List ℕ)) (times : Li
   pub written : (front ≡ []) ⊎ BeginsRefusal (line_of bytes) now most_rows drawn front
 
 -- behind its first line, which is accepted: these requests were answered, none of which asks for the end, and a
--- part was written of what comes next. The clock is read for the declaration and then once for each request
+-- part was written of what comes next. The clock is read for the declaration, then once for each request that was
+-- answered, and since then for what comes next
 pub record StopsBehind (bytes : List ℕ) (drawn : List (List ℕ)) (times : List ℕ) (front : List ℕ) : Type 0 where
   pub now : ℕ
-  pub later : List ℕ
-  pub clock : times ≡ now ∷ later
+  pub earlier : List ℕ
+  pub since : List ℕ
+  pub clock : times ≡ now ∷ earlier ++ since
   pub accepted : Accepted
   pub declared : Decides (line_of bytes) now most_rows drawn (Ok accepted)
   pub all : accepted.drawn ≡ length drawn
@@ -87,9 +89,10 @@ pub record StopsBehind (bytes : List ℕ) (drawn : List (List ℕ)) (times : Lis
   pub reading : IsReading (after_line bytes) messages rest
   pub on : GoOn messages
   pub few : length messages < most_requests
+  pub one_each : length earlier ≡ length messages
   pub part : List ℕ
-  pub stops : StopsIn (router_rows accepted.rows) (length messages) (length later) rest part
-  pub written : front ≡ texts (router_rows accepted.rows) 0 messages ++ part
+  pub stops : StopsIn (gateway_rows accepted.rows) (length messages) since rest part
+  pub written : front ≡ texts (gateway_rows accepted.rows) 0 earlier messages ++ part
 
 -- over these bytes, with these ids drawn and these times read, a run that was cut short may have written this
 abbrev pub IsCutText : List ℕ → List (List ℕ) → List ℕ → List ℕ → Type 0

@@ -1,6 +1,8 @@
 -- What a first line gives: the commands of its declaration, or its refusal (this project's own:
 -- docs/BEHAVIOUR.md, "The dry run").
-use Rattle.std.specs.Prelude.{◌≡◌, ℕ, ◌≤◌, ◌==◌, nat_lt, ◌⊎◌, List, [], ◌++◌, length, codes, Option, Some, Result, Ok, Err, if◌then◌else◌}
+use Rattle.std.specs.Prelude.{◌≡◌, ℕ, ◌≤◌, nat_lt, ◌⊎◌, List, [], ◌++◌, length, codes, Option, Some, Result, Ok, Err, if◌then◌else◌}
+use Rattle.std.specs.List.{list_all}
+use Rattle.kg_row_types.specs.declared.plugin.PluginRow.{PluginRow}
 use Rattle.kg_declare.specs.Outcome.{Accepted, Refused, drawn_for, next, outcome}
 use Rattle.kg_declare.specs.Steps.{accepted_after}
 use Rattle.kg_lone.specs.FirstLine.{line_of, after_line}
@@ -9,6 +11,7 @@ use Rattle.kg_message.specs.declared.response.Response.{Response}
 use Rattle.kg_outside.specs.Moves.{with_end}
 use Rattle.kg_plain.specs.Fronts.{IsFront}
 use Rattle.kg_row_values.specs.declared.command.Command.{Command}
+use Rattle.kg_visit.specs.Phases.{runs}
 
 -- how many bytes the first line may have, its line feed left aside
 abbrev pub most_line : ℕ
@@ -20,14 +23,14 @@ most_line = 67108864
 unfoldable pub bad_line : Response
 bad_line = gateway_message 400 (codes "Bad line")
 
--- no plugin is run yet
+-- some plugins aren't run yet
 unfoldable pub not_built : Response
 not_built = gateway_message 400 (codes "Not built yet")
 
--- a declaration that is accepted is refused all the same where it has a plugin
-abbrev pub without_plugins : Accepted → Result Accepted Refused
-without_plugins accepted =
-    if length accepted.rows.plugins == 0 then Ok accepted
+-- a declaration that is accepted is refused all the same where it has a row of such a plugin
+abbrev pub with_built_plugins : Accepted → Result Accepted Refused
+with_built_plugins accepted =
+    if list_all (λ (row : PluginRow). runs row.config) accepted.rows.plugins then Ok accepted
     else Err (record { response = not_built; drawn = accepted.drawn })
 
 -- ---- the line
@@ -35,7 +38,7 @@ without_plugins accepted =
 -- what becomes of a line within the limit, at the time `now`, in milliseconds, with at most `limit` rows of
 -- a kind, when these ids are drawn
 unfoldable pub run_outcome : List ℕ → ℕ → ℕ → List (List ℕ) → Result Accepted Refused
-run_outcome line now limit draws = next without_plugins (outcome line now limit draws)
+run_outcome line now limit draws = next with_built_plugins (outcome line now limit draws)
 
 -- what becomes of the first line
 unfoldable pub first_outcome : List ℕ → ℕ → ℕ → List (List ℕ) → Result Accepted Refused

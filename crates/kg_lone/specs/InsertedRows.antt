@@ -1,51 +1,48 @@
--- The rows that commands insert, by their kinds.
-use Rattle.std.specs.Prelude.{Bool, true, false, List, [], ◌∷◌, ◌++◌, Option, Some, None}
-use Rattle.std.specs.List.{filter_map, list_any}
+-- The rows that commands insert, as a gateway answers by them.
+use Rattle.std.specs.Prelude.{Bool, false, not, List, [], ◌∷◌, ◌++◌, fold}
+use Rattle.std.specs.List.{list_any}
 use Rattle.kg_row_types.specs.RowLists.{RowLists}
 use Rattle.kg_row_types.specs.declared.entity.Entity.{Entity}
 use Rattle.kg_row_types.specs.declared.entity.Entity.TheVariants as row
-use Rattle.kg_row_types.specs.declared.route.Route.{Route}
-use Rattle.kg_row_types.specs.declared.service.Service.{Service}
-use Rattle.kg_router.specs.RouterRows.{RouterRows}
 use Rattle.kg_row_values.specs.declared.command.Command.{Command}
 use Rattle.kg_row_values.specs.declared.command.Command.TheVariants as command
+use Rattle.kg_plain.specs.DryReply.{GatewayRows}
+use Rattle.kg_visit.specs.Phases.{runs}
+use Rattle.kg_lone.specs.declared.rows.Listing.{Listing}
 
--- the service that a row is, if it is one, and so of routes and plugins
-abbrev pub as_service : Entity → Option Service
-as_service (row.Service service) = Some service
-as_service _ = None
+-- the row behind those of its kind, if it is a service, a route or a plugin
+abbrev pub with_row : Entity → Listing → Listing
+with_row (row.Service new) listing = record listing { services = listing.services ++ new ∷ [] }
+with_row (row.Route new) listing = record listing { routes = listing.routes ++ new ∷ [] }
+with_row (row.Plugin new) listing = record listing { plugins = listing.plugins ++ new ∷ [] }
+with_row _ listing = listing
 
-abbrev pub as_route : Entity → Option Route
-as_route (row.Route route) = Some route
-as_route _ = None
+abbrev pub listed_after : Listing → Command → Listing
+listed_after listing (command.Insert new) = with_row new listing
+listed_after listing _ = listing
 
-abbrev pub service_in : Command → Option Service
-service_in (command.Insert new) = as_service new
-service_in _ = None
+abbrev pub no_lists : Listing
+no_lists = record { services = []; routes = []; plugins = [] }
 
-abbrev pub route_in : Command → Option Route
-route_in (command.Insert new) = as_route new
-route_in _ = None
+-- the rows that the commands insert, in their order
+abbrev pub listed_in : List Command → Listing
+listed_in commands = fold listed_after no_lists commands
 
-abbrev pub is_plugin : Command → Bool
-is_plugin (command.Insert (row.Plugin plugin)) = true
-is_plugin _ = false
+-- a command that inserts a row of a plugin that isn't run
+abbrev pub is_unbuilt : Command → Bool
+is_unbuilt (command.Insert (row.Plugin plugin)) = not (runs plugin.config)
+is_unbuilt _ = false
 
--- a list, and behind it what is there
-abbrev pub with_one : {X : Type 0} → Option X → List X → List X
-with_one None xs = xs
-with_one (Some x) xs = xs ++ x ∷ []
+abbrev pub has_unbuilt : List Command → Bool
+has_unbuilt commands = list_any is_unbuilt commands
 
--- the services in their order
-abbrev pub services_in : List Command → List Service
-services_in commands = filter_map service_in commands
+-- these rows as a gateway answers by them
+abbrev pub gateway_over : Listing → GatewayRows
+gateway_over listing = record {
+  router = record { rev = 0; services = listing.services; routes = listing.routes };
+  plugins = record { rev = 0; rows = listing.plugins };
+}
 
-abbrev pub routes_in : List Command → List Route
-routes_in commands = filter_map route_in commands
-
-abbrev pub has_plugin : List Command → Bool
-has_plugin commands = list_any is_plugin commands
-
--- the rows of a declaration as a router sees them
-abbrev pub router_rows : RowLists → RouterRows
-router_rows rows = record { rev = 0; services = rows.services; routes = rows.routes }
+-- the rows of a declaration
+abbrev pub gateway_rows : RowLists → GatewayRows
+gateway_rows rows = gateway_over (record { services = rows.services; routes = rows.routes; plugins = rows.plugins })

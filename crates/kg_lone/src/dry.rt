@@ -1,6 +1,6 @@
 //! The dry run: a declaration and requests on one stream, the replies on another.
 
-ghost use Rattle.std.specs.Prelude.{◌≡◌, ◌⊎◌, ◌↔◌, ℕ, List as Sequence, ◌∷◌, ◌++◌, Err, Some, IsTrue, IfErr, IfOk, OnOk};
+ghost use Rattle.std.specs.Prelude.{◌≡◌, ◌⊎◌, ◌↔◌, ℕ, List as Sequence, ◌∷◌, ◌++◌, false, Err, Some, IsTrue, IfErr, IfOk, OnOk};
 ghost use Rattle.kg_outside.specs.Causes.{Rose};
 ghost use Rattle.kg_declare.specs.Histories.{AreInsertions};
 ghost use Rattle.kg_row_values.specs.Rows.{rows_after};
@@ -9,10 +9,10 @@ ghost use Rattle.kg_plain.specs.Fronts.{IsFront};
 ghost use Rattle.kg_lone.specs.DryRun.{IsCutShort, IsDryWords, IsExit, IsWhole};
 ghost use Rattle.kg_lone.specs.DryText.{IsCutText, IsDryText, IsEndOf, WritesFront, WritesText, exit_of, most_rows, status_of};
 ghost use Rattle.kg_lone.specs.FirstLine.{after_line};
-ghost use Rattle.kg_lone.specs.InsertedRows.{router_rows};
+ghost use Rattle.kg_lone.specs.InsertedRows.{gateway_rows, has_unbuilt};
 
 use crate::commands::first_commands;
-use crate::rows::router_of;
+use crate::rows::gateway_of;
 use crate::status::{BROKEN, DONE, OTHER_WORDS, OUT_OF_MEMORY, READ_FAULT, WRITE_FAULT};
 use kg_outside::{Clock, Ids, Sink, Source};
 use kg_plain::{End, Gateway, Stop, answer_all};
@@ -31,10 +31,11 @@ fn answered<S: Source, K: Sink, T: Clock>(
     sink: &mut K,
     clock: &mut T,
 ) -> Result<End, u8>
-    requires { AreInsertions most_rows commands }
-    ensures ok { IfOk result (AnswersAll (router_rows (rows_after commands)) (T.reads clock.old clock.new) (S.left source.old) (K.written sink.old) (K.written sink.new)) }
+    requires rows { AreInsertions most_rows commands }
+    requires built { has_unbuilt commands ≡ false }
+    ensures ok { IfOk result (AnswersAll (gateway_rows (rows_after commands)) (T.reads clock.old clock.new) (S.left source.old) (K.written sink.old) (K.written sink.new)) }
     ensures err { IfErr result (λ status. IsCutShort status
-        × AnswersFront (router_rows (rows_after commands)) (T.reads clock.old clock.new) (S.left source.old) (K.written sink.old) (K.written sink.new)) }
+        × AnswersFront (gateway_rows (rows_after commands)) (T.reads clock.old clock.new) (S.left source.old) (K.written sink.old) (K.written sink.new)) }
     ensures kept { OnOk result ((S.faults source.new ≡ S.faults source.old) × (K.faults sink.new ≡ K.faults sink.old)) }
     ensures read { result ≡ Err 4 → Rose (S.faults source.old) (S.faults source.new) }
     ensures write { result ≡ Err 5 → Rose (K.faults sink.old) (K.faults sink.new) }
@@ -60,8 +61,7 @@ fn answered_by<S: Source, K: Sink, T: Clock>(
     ensures read { result ≡ Err 4 → Rose (S.faults source.old) (S.faults source.new) }
     ensures write { result ≡ Err 5 → Rose (K.faults sink.old) (K.faults sink.new) }
 {
-    let mut gateway = gateway;
-    let end = answer_all(alloc, &mut gateway, source, sink, clock);
+    let end = answer_all(alloc, &gateway, source, sink, clock);
     // let go by name: a short proof
     drop(gateway);
     match end {
@@ -70,13 +70,6 @@ fn answered_by<S: Source, K: Sink, T: Clock>(
         Err(Stop::WriteFault) => Err(WRITE_FAULT),
         Err(Stop::NoMemory) => Err(OUT_OF_MEMORY),
     }
-}
-
-fn gateway_of(alloc: Global, commands: List<Command>) -> Result<Gateway, NoMemory>
-    requires { AreInsertions most_rows commands }
-    ensures { IfOk result (λ gateway. gateway ≡ router_rows (rows_after commands)) }
-{
-    Gateway::new(alloc, router_of(alloc, commands)?)
 }
 
 // The run of the one command that there is.

@@ -10,4 +10,5 @@ pub mod status;
 
 pub use crate::commands::first_commands;
 pub use crate::dry::{cut_text_goes_on, exit_status, one_text, run, run_to_end};
+pub use crate::rows::gateway_of;
 pub use kg_plain::End;

@@ -4,7 +4,7 @@ use Rattle.kg_lone.specs.LineSteps.{AnswersLine, read_outcome}
 use Rattle.kg_lone.proofs.CommandLemmas.{accepts, declines}
 use Rattle.kg_lone.proofs.commands.accepted.Goals as goal
 
--- the commands of the line, if none of them inserts a plugin
+-- the commands of the line, if none of them inserts a row of a plugin that isn't run
 pub returns-in-Ok-clause-line : goal.returns-in-Ok-clause-line
 returns-in-Ok-clause-line g c =
     let drew = c.in-Ok.ensures.outcome in
@@ -12,10 +12,10 @@ returns-in-Ok-clause-line g c =
       drawn = drew.drawn;
       moved = drew.moved;
       says =
-          subst (λ line. AnswersLine c.without_plugins.result (read_outcome line c.args.now c.args.limit) drew.drawn) (sym c.in-Whole.is)
-          (subst (λ bytes. AnswersLine c.without_plugins.result (run_outcome bytes c.args.now c.args.limit) drew.drawn) c.as_slice.ensures.value
-          (accepts c.as_slice.result.now c.args.now c.args.limit drew.drawn c.in-Ok.commands c.without_plugins.result c.in-Ok.ensures.commands
-          drew.answers c.without_plugins.ensures.ok c.without_plugins.ensures.err));
+          subst (λ line. AnswersLine c.with_built_plugins.result (read_outcome line c.args.now c.args.limit) drew.drawn) (sym c.in-Whole.is)
+          (subst (λ bytes. AnswersLine c.with_built_plugins.result (run_outcome bytes c.args.now c.args.limit) drew.drawn) c.as_slice.ensures.value
+          (accepts c.as_slice.result.now c.args.now c.args.limit drew.drawn c.in-Ok.commands c.with_built_plugins.result c.in-Ok.ensures.commands
+          drew.answers c.with_built_plugins.ensures.ok c.with_built_plugins.ensures.err));
     }
 
 -- its refusal
