@@ -26,11 +26,12 @@ const HELP: &str = "\
 usage: kong_node dry < FILE
        kong_node --help | --version
 
-dry   The first line of standard input declares services, routes, consumers and credentials (a JSON
-      object in Kong's declarative format 1.1, 2.1 or 3.0); plugins aren't run yet, and a line with
-      one is refused. The HTTP/1.1 requests after it are routed, and the reply to each is written to
-      standard output. The upstream of every service is an echo: it answers with the request that it
-      was sent.
+dry   The first line of standard input declares services, routes, consumers, credentials and plugins
+      (a JSON object in Kong's declarative format 1.1, 2.1 or 3.0). The plugins key-auth, basic-auth,
+      acl and rate-limiting aren't run yet, and a line with one of them is refused. The HTTP/1.1
+      requests after it are routed, each goes through the plugins of its route, and the reply to it is
+      written to standard output. The upstream of every service is an echo: it answers with the request
+      that it was sent.
 
 Exit status of dry: 0 the requests were answered, up to the end of standard input, the first that
 asks for the end of the connection or the thousandth; 3 the first line was refused; 7 a message was
