@@ -1,5 +1,7 @@
 #!/usr/bin/env bash
-# Measures `kong_node dry` over 10, 1,000 and 10,000 routes, told apart by their paths and by their hosts.
+# Measures `kong_node dry` over 10, 1,000 and 10,000 routes, told apart by their paths and by their hosts; over
+# the worked example of two routes, as it is and with all six plugins on each of them; and over that example beside
+# 10, 1,000 and 10,000 rows of one plugin, none of which runs: choosing a row must cost the same.
 # usage: bench/dry.sh [LIMIT.c]
 # For each it prints the median wall time of five runs over 1,000 requests and, where valgrind is
 # installed, the instructions per request (those of a run without requests taken off).
@@ -17,7 +19,7 @@ trap 'rm -rf "$folder"' EXIT
 write_run() {
     python3 - "$1" "$2" "$requests" "$folder" <<'PYTHON'
 import json, sys
-by, routes, requests, folder = sys.argv[1], int(sys.argv[2]), int(sys.argv[3]), sys.argv[4]
+by, count, requests, folder = sys.argv[1], int(sys.argv[2]), int(sys.argv[3]), sys.argv[4]
 agent = "User-Agent: Mozilla/5.0\r\nAccept: application/json\r\nAccept-Language: en\r\n"
 
 def service(i):
@@ -26,19 +28,33 @@ def service(i):
     return {"name": f"s{i}", "url": f"http://up{i}.example/v{i}", "routes": [route]}
 
 def request(i):
-    n = i * 7919 % routes
+    n = i * 7919 % count
     path, host = (f"/p{n}", "shop.example") if by == "path" else ("", f"h{n}.example")
     return f"GET {path}/item/{i}?q=1 HTTP/1.1\r\nHost: {host}\r\n{agent}\r\n"
 
-if by == "example":
-    services = [{"name": "s", "url": "http://up.example/s", "routes": [
-        {"name": "f", "paths": ["/fv0"], "strip_path": False}, {"name": "t", "paths": ["/tv0"]}]}]
+# each passes the request on
+six = [
+    {"name": "cors", "config": {"origins": ["http://a.example"]}},
+    {"name": "ip-restriction", "config": {"deny": ["10.0.0.0/8"]}},
+    {"name": "request-size-limiting", "config": {"allowed_payload_size": 1}},
+    {"name": "request-transformer", "config": {"add": {"headers": ["x-a:1"]}}},
+    {"name": "response-transformer", "config": {"add": {"headers": ["x-b:2"]}}},
+    {"name": "request-termination", "enabled": False},
+]
+rows = {}
+if by in ("path", "host"):
+    rows["services"] = [service(i) for i in range(count)]
+    texts = [request(i) for i in range(requests)]
+else:
+    routes = [{"name": "f", "paths": ["/fv0"], "strip_path": False}, {"name": "t", "paths": ["/tv0"]}]
+    if by == "plugins":
+        routes = [{**route, "plugins": six} for route in routes]
+    if by == "rows":
+        rows["consumers"] = [{"username": f"c{i}", "plugins": [{"name": "response-transformer"}]} for i in range(count)]
+    rows["services"] = [{"name": "s", "url": "http://up.example/s", "routes": routes}]
     paths = ["/fv0/req", "/tv0/req", "/tv0req"]
     texts = [f"GET {paths[i % 3]} HTTP/1.1\r\nHost: shop.example\r\n\r\n" for i in range(requests)]
-else:
-    services = [service(i) for i in range(routes)]
-    texts = [request(i) for i in range(requests)]
-line = json.dumps({"_format_version": "3.0", "services": services}, separators=(",", ":")) + "\n"
+line = json.dumps({"_format_version": "3.0", **rows}, separators=(",", ":")) + "\n"
 with open(f"{folder}/declaration", "w") as out:
     out.write(line)
 with open(f"{folder}/run", "w", newline="") as out:
@@ -70,15 +86,29 @@ per_request() {
 
 has_valgrind() { command -v valgrind > /dev/null; }
 
+# what the run that was written last takes
+tell() {
+    local told
+    told="$1, $requests requests: median of five runs $(median_time) microseconds"
+    if has_valgrind; then
+        told="$told, $(per_request "$program" dry) instructions a request"
+    fi
+    echo "$told"
+}
+
 for by in path host; do
     for routes in 10 1000 10000; do
         write_run "$by" "$routes"
-        told="$routes routes by $by, $requests requests: median of five runs $(median_time) microseconds"
-        if has_valgrind; then
-            told="$told, $(per_request "$program" dry) instructions a request"
-        fi
-        echo "$told"
+        tell "$routes routes by $by"
     done
+done
+write_run example 2
+tell "worked example"
+write_run plugins 2
+tell "worked example with six plugins on its routes"
+for rows in 10 1000 10000; do
+    write_run rows "$rows"
+    tell "worked example beside $rows rows of a plugin"
 done
 
 if [ $# -gt 0 ] && has_valgrind && command -v gcc > /dev/null; then

@@ -57,29 +57,28 @@ CHANGES = [
 ]
 
 
-def once(command, text, statuses):
+def once(command, text):
     """The processor time of a run in microseconds and its greatest resident memory in KiB."""
     with tempfile.TemporaryFile() as given:
         given.write(text.encode())
         given.seek(0)
         run = subprocess.Popen(command, stdin=given, stdout=subprocess.DEVNULL, stderr=subprocess.DEVNULL)
         _, status, used = os.wait4(run.pid, 0)
-    if os.waitstatus_to_exitcode(status) not in statuses:
+    if os.waitstatus_to_exitcode(status) != 0:
         sys.exit(f"{command[0]} ended with {os.waitstatus_to_exitcode(status)}")
     return round((used.ru_utime + used.ru_stime) * 1_000_000), used.ru_maxrss
 
 
-def least(command, text, statuses):
+def least(command, text):
     # other work only adds to a run's time
-    runs = [once(command, text, statuses) for _ in range(RUNS)]
+    runs = [once(command, text) for _ in range(RUNS)]
     return min(time for time, _ in runs), max(memory for _, memory in runs)
 
 
 def whole(rows):
-    # a declaration with plugins is judged in full, and then refused since they aren't run yet
-    for name, lists, status in ("consumers with a key", consumers, 0), ("services with a plugin", services, 3):
+    for name, lists in ("consumers with a key", consumers), ("services with a plugin", services):
         line = declaration(lists(rows)) + "\n"
-        time, memory = least(DRY, line, {status})
+        time, memory = least(DRY, line)
         print(f"{rows} {name} each, {len(line)} bytes: {time} microseconds, {memory} KiB", flush=True)
 
 
@@ -88,8 +87,8 @@ def single(rows):
     for name, lists, line in CHANGES:
         text = f"limit {2 * rows}\ndeclare {declaration(lists(rows))}\n"
         if lists not in alone:
-            alone[lists] = least(CASES, text, {0})[0]
-        time = least(CASES, text + "".join(f"{line(i)}\n" for i in range(rows)), {0})[0]
+            alone[lists] = least(CASES, text)[0]
+        time = least(CASES, text + "".join(f"{line(i)}\n" for i in range(rows)))[0]
         print(f"{rows} rows of each kind, {name}: {(time - alone[lists]) / rows:.1f} microseconds", flush=True)
 
 
