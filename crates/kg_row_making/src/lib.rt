@@ -6,5 +6,4 @@ pub mod before;
 pub mod config;
 pub mod defaults;
 pub mod member;
-pub mod password;
 pub mod set;

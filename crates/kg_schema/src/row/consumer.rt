@@ -13,8 +13,8 @@ use kg_bodies::by_table::text_in;
 use kg_field_rules::rule::Rule;
 use kg_field_rules::violations::Violations;
 use kg_field_tables::table::Table;
+use kg_password::hash_of;
 use kg_row_making::base::{Base, Links};
-use kg_row_making::password::stored_password;
 use kg_row_making::set::{set, set_option};
 use kg_row_types::consumer::{AclRow, BasicCred, Consumer, KeyCred};
 use kg_row_types::id::Id;
@@ -128,7 +128,7 @@ pub fn set_basic(
         text_in(alloc, Table::BasicCred, "username", body)?,
     );
     match text_in(alloc, Table::BasicCred, "password", body)? {
-        Some(password) => row.hash = stored_password(alloc, row.consumer, &password)?,
+        Some(password) => row.hash = hash_of(alloc, row.consumer, password.as_bytes())?,
         None => {}
     }
     Ok(())

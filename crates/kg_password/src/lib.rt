@@ -1,7 +1,7 @@
 //! What is stored of a password.
+#![tactic(auto)]
 
 ghost use Rattle.std.specs.Prelude.{◌≡◌, ◌++◌, IfOk, codes};
-ghost use Rattle.kg_row_types.specs.Ids.{printed};
 ghost use Rattle.kg_row_types.specs.StoredPassword.{stored_password};
 ghost use Rattle.sha2.specs.Sha256.{sha256};
 
@@ -13,11 +13,11 @@ use std::alloc::Global;
 /// The SHA-256 of the consumer's printed id, a colon and the password, as hexadecimal digits in
 /// lower case.
 #[tactic(auto, unfolding(kg_row_types::specs::StoredPassword::stored_password))]
-pub fn stored_password(alloc: Global, consumer: Id, password: &Text) -> Result<Text, NoMemory>
+pub fn hash_of(alloc: Global, consumer: Id, password: &[u8]) -> Result<Text, NoMemory>
     ensures { IfOk result (λ hash. hash ≡ stored_password consumer password.now) }
 {
     let id = consumer.to_text(alloc)?;
-    let digest = digest_of(id.as_bytes(), password.as_bytes());
+    let digest = digest_of(id.as_bytes(), password);
     Ok(Text::from_string(hex::encode(alloc, digest)?))
 }
 
