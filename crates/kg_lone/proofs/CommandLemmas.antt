@@ -13,7 +13,7 @@ use Rattle.kg_message.specs.declared.response.Response.{Response}
 use Rattle.kg_outside.specs.Moves.{with_end}
 use Rattle.kg_plain.specs.Fronts.{IsFront}
 use Rattle.kg_row_values.specs.declared.command.Command.{Command}
-use Rattle.kg_visit.specs.Phases.{runs}
+use Rattle.kg_course.specs.Phases.{runs}
 use Rattle.kg_lone.specs.FirstCommands.{AnswersFirst, DrawsWithin, FirstLineCall, GivesCommands, IsRefused, first_outcome, most_line, not_built, refusal_line, run_outcome, with_built_plugins}
 use Rattle.kg_lone.specs.FirstLine.{GivesLine, line_of}
 use Rattle.kg_lone.specs.InsertedRows.{has_unbuilt}

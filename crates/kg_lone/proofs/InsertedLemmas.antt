@@ -13,8 +13,8 @@ use Rattle.kg_declare.specs.Histories.{InsertsValidRow}
 use Rattle.kg_row_values.specs.Rows.{rows_after, rows_from}
 use Rattle.kg_row_values.specs.declared.command.Command.{Command}
 use Rattle.kg_row_values.specs.declared.command.Command.TheVariants.{Insert, Update, Delete}
-use Rattle.kg_visit.specs.Phases.{runs}
-use Rattle.kg_visit.specs.Walks.{AreBuilt}
+use Rattle.kg_course.specs.Phases.{runs}
+use Rattle.kg_course.specs.Walks.{AreBuilt}
 use Rattle.kg_lone.specs.InsertedRows.{gateway_over, gateway_rows, has_unbuilt, listed_after, listed_in, no_lists, with_row}
 use Rattle.kg_lone.specs.declared.rows.Listing.{Listing}
 

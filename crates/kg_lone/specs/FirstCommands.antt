@@ -11,7 +11,7 @@ use Rattle.kg_message.specs.declared.response.Response.{Response}
 use Rattle.kg_outside.specs.Moves.{with_end}
 use Rattle.kg_plain.specs.Fronts.{IsFront}
 use Rattle.kg_row_values.specs.declared.command.Command.{Command}
-use Rattle.kg_visit.specs.Phases.{runs}
+use Rattle.kg_course.specs.Phases.{runs}
 
 -- how many bytes the first line may have, its line feed left aside
 abbrev pub most_line : ℕ

@@ -7,7 +7,7 @@ use Rattle.kg_row_types.specs.declared.entity.Entity.TheVariants as row
 use Rattle.kg_row_values.specs.declared.command.Command.{Command}
 use Rattle.kg_row_values.specs.declared.command.Command.TheVariants as command
 use Rattle.kg_plain.specs.DryReply.{GatewayRows}
-use Rattle.kg_visit.specs.Phases.{runs}
+use Rattle.kg_course.specs.Phases.{runs}
 use Rattle.kg_lone.specs.declared.rows.Listing.{Listing}
 
 -- the row behind those of its kind, if it is a service, a route or a plugin

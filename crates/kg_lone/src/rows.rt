@@ -5,7 +5,7 @@ ghost use Rattle.kg_row_types.specs.ValidRows.{IsValidPlugin, IsValidRoute};
 ghost use Rattle.kg_router.specs.RouterRows.{HasDistinctRoutes};
 ghost use Rattle.kg_declare.specs.Histories.{AreInsertions};
 ghost use Rattle.kg_row_values.specs.Rows.{rows_after};
-ghost use Rattle.kg_visit.specs.Walks.{AreBuilt};
+ghost use Rattle.kg_course.specs.Walks.{AreBuilt};
 ghost use Rattle.kg_lone.specs.DryText.{most_rows};
 ghost use Rattle.kg_lone.specs.InsertedRows.{gateway_over, gateway_rows, has_unbuilt, listed_after, listed_in, with_row};
 

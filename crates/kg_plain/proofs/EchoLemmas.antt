@@ -10,15 +10,16 @@ use Rattle.kg_context.specs.declared.upstream.UpRequest.{UpRequest}
 use Rattle.kg_context.specs.declared.upstream.Upstream.{Upstream}
 use Rattle.kg_limit.specs.declared.hit.Hit.{Hit}
 use Rattle.kg_limit.specs.declared.hit.Verdict.{Verdict}
-use Rattle.kg_visit.specs.Course.{Answers, run}
-use Rattle.kg_visit.specs.CourseLaws.{Lacking}
-use Rattle.kg_visit.specs.Plain.{Asked, answers, course, plain, want_of}
-use Rattle.kg_visit.specs.Told.{Asks, IsReply, Told, begun, entities, want_after, with_upstream}
-use Rattle.kg_visit.specs.declared.moment.Moment.{Moment}
-use Rattle.kg_visit.specs.declared.want.Want.{Want}
-use Rattle.kg_visit.specs.declared.want.Want.TheVariants as want
-use Rattle.kg_visit.proofs.CourseLemmas.{run_lacks}
-use Rattle.kg_visit.proofs.OnlyUpstreamLemmas.{only_course, only_lacks}
+use Rattle.kg_course.specs.Course.{Answers, run}
+use Rattle.kg_course.specs.CourseLaws.{Lacking}
+use Rattle.kg_course.specs.Plain.{Asked, answers, course, plain, want_of}
+use Rattle.kg_course.specs.Wants.{Asks, IsReply}
+use Rattle.kg_visit.specs.Told.{Told, begun, entities, want_after, with_upstream}
+use Rattle.kg_course.specs.declared.moment.Moment.{Moment}
+use Rattle.kg_course.specs.declared.want.Want.{Want}
+use Rattle.kg_course.specs.declared.want.Want.TheVariants as want
+use Rattle.kg_course.proofs.CourseLemmas.{run_lacks}
+use Rattle.kg_course.proofs.OnlyUpstreamLemmas.{only_course, only_lacks}
 use Rattle.kg_plain.specs.DryReply.{GatewayRows, after_echo, asked_of, dry_reply, no_values, response_in}
 use Rattle.kg_plain.specs.Echoes.{echo_to, echoed, told_if}
 

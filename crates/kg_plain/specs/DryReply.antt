@@ -14,9 +14,9 @@ use Rattle.kg_context.specs.declared.upstream.Upstream.TheVariants.{Answered}
 use Rattle.kg_print.specs.Connection.{keeping_of}
 use Rattle.kg_print.specs.ReplyText.{reply_text}
 use Rattle.kg_print.specs.declared.connection.Keeping.TheVariants.{Close}
-use Rattle.kg_visit.specs.Plain.{Asked, no_route, plain}
-use Rattle.kg_visit.specs.declared.want.Want.{Want}
-use Rattle.kg_visit.specs.declared.want.Want.TheVariants as want
+use Rattle.kg_course.specs.Plain.{Asked, no_route, plain}
+use Rattle.kg_course.specs.declared.want.Want.{Want}
+use Rattle.kg_course.specs.declared.want.Want.TheVariants as want
 
 -- the rows that a gateway answers by
 pub record GatewayRows : Type 0 where

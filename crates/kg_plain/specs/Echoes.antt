@@ -4,8 +4,8 @@ use Rattle.kg_context.specs.Echo.{echo_of}
 use Rattle.kg_context.specs.declared.upstream.Upstream.{Upstream}
 use Rattle.kg_context.specs.declared.upstream.Upstream.TheVariants.{Answered}
 use Rattle.kg_visit.specs.Told.{Told, want_after, with_upstream}
-use Rattle.kg_visit.specs.declared.want.Want.{Want}
-use Rattle.kg_visit.specs.declared.want.Want.TheVariants as want
+use Rattle.kg_course.specs.declared.want.Want.{Want}
+use Rattle.kg_course.specs.declared.want.Want.TheVariants as want
 
 -- the echo's answer, where it is wanted
 abbrev pub echo_to : Want → Option Upstream

@@ -4,9 +4,10 @@ ghost use Rattle.std.specs.Prelude.{◌≡◌, false, IfOk, OnOk};
 ghost use Rattle.std.specs.Arc.{arc_value};
 ghost use Rattle.kg_plain.specs.DryReply.{bad_request, bad_request_text, dry_reply, is_bodiless, reply_to};
 ghost use Rattle.kg_plain.specs.Echoes.{echo_to, echoed};
-ghost use Rattle.kg_visit.specs.Told.{IsReply, begun, want_after};
-ghost use Rattle.kg_visit.specs.Walks.{AreBuilt};
-ghost use Rattle.kg_visit.specs.declared.want.Want.TheVariants as AWant;
+ghost use Rattle.kg_course.specs.Wants.{IsReply};
+ghost use Rattle.kg_visit.specs.Told.{begun, want_after};
+ghost use Rattle.kg_course.specs.Walks.{AreBuilt};
+ghost use Rattle.kg_course.specs.declared.want.Want.TheVariants as AWant;
 
 use kg_context::{Upstream, echo_of};
 use kg_message::{Request, Response, message};
@@ -32,7 +33,7 @@ pub struct Gateway {
 impl Model for Gateway {
     ghost use Rattle.std.specs.Arc.{arc_value};
     ghost use Rattle.kg_plain.specs.DryReply.{GatewayRows};
-    ghost use Rattle.kg_visit.specs.Walks.{AreBuilt};
+    ghost use Rattle.kg_course.specs.Walks.{AreBuilt};
 
     ghost Value = { GatewayRows };
 

@@ -1,5 +1,1 @@
-pub mod CourseLemmas
 mod GiveLemmas
-pub mod OnlyUpstreamLemmas
-mod TurnLemmas
-mod WalkLemmas

@@ -1,9 +1,2 @@
-pub mod Course
-pub mod CourseLaws
-pub mod OnlyUpstream
-pub mod Phases
-pub mod Plain
 pub mod Told
-pub mod UpstreamMessage
-pub mod UpstreamPath
-pub mod Walks
+pub mod Visits

@@ -1,5 +1,5 @@
 -- What a visit has been told, and what it wants then.
-use Rattle.std.specs.Prelude.{◌≡◌, ℕ, Bool, true, false, List, [], ◌∷◌, ◌++◌, map, Option, Some, None}
+use Rattle.std.specs.Prelude.{◌≡◌, ℕ, Bool, false, List, [], ◌∷◌, ◌++◌, map, Option, Some, None}
 use Rattle.kg_row_types.specs.declared.key.Key.{Key}
 use Rattle.kg_row_types.specs.declared.value.Value.{Value}
 use Rattle.kg_message.specs.declared.request.Request.{Request}
@@ -11,10 +11,10 @@ use Rattle.kg_context.specs.declared.upstream.Upstream.{Upstream}
 use Rattle.kg_layers.specs.declared.level.Level.{Level}
 use Rattle.kg_limit.specs.declared.hit.Hit.{Hit}
 use Rattle.kg_limit.specs.declared.hit.Verdict.{Verdict}
-use Rattle.kg_visit.specs.Plain.{Asked, plain}
-use Rattle.kg_visit.specs.declared.moment.Moment.{Moment}
-use Rattle.kg_visit.specs.declared.want.Want.{Want}
-use Rattle.kg_visit.specs.declared.want.Want.TheVariants as want
+use Rattle.kg_course.specs.Plain.{Asked, plain}
+use Rattle.kg_course.specs.declared.moment.Moment.{Moment}
+use Rattle.kg_course.specs.declared.want.Want.{Want}
+use Rattle.kg_course.specs.declared.want.Want.TheVariants as want
 
 -- a key's value, at which place of the history it was read, and where it was found
 pub record Use : Type 0 where
@@ -60,22 +60,6 @@ with_verdict verdict told = record told { verdicts = told.verdicts ++ verdict �
 
 abbrev pub with_upstream : Upstream → Told → Told
 with_upstream answer told = record told { upstream = Some answer }
-
--- ---- which wants there are
-
--- it is the reply, and so nothing is lacking
-abbrev pub IsReply : Want → Type 0
-IsReply (want.Done reply) = Unit {0}
-IsReply _ = ⊥
-
--- something is lacking
-abbrev pub Asks : Want → Type 0
-Asks (want.Done reply) = ⊥
-Asks _ = Unit {0}
-
-abbrev pub is_reply : Want → Bool
-is_reply (want.Done reply) = true
-is_reply _ = false
 
 -- ---- what was told is what was asked, in the order asked
 pub data IsAsked (asked : Asked) : List Use → List Verdict → Option Upstream → Type 0 where

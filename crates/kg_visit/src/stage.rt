@@ -1,6 +1,6 @@
 //! Where a request has come to.
 
-use crate::walk::Walk;
+use kg_course::Walk;
 use kg_message::Request;
 
 /// A request at its route, or one that no route takes.

@@ -1,31 +1,27 @@
 //! One request of the gateway, as it is answered.
 
-ghost use Rattle.std.specs.Prelude.{◌≡◌, false, IfOk, IsTrue, OnOk, option_map};
+ghost use Rattle.std.specs.Prelude.{◌≡◌, false, IfOk, IsTrue, OnOk};
 ghost use Rattle.std.specs.Arc.{arc_value};
 ghost use Rattle.kg_context.specs.declared.upstream.UpRequest.{UpRequest as AMessage};
-ghost use Rattle.std.specs.Option.{option_or};
 ghost use Rattle.kg_row_types.specs.Values.{answers_key};
 ghost use Rattle.kg_router.specs.Best.{best_choice};
-ghost use Rattle.kg_visit.specs.Plain.{no_route};
-ghost use Rattle.kg_visit.specs.UpstreamMessage.{reply_of};
-ghost use Rattle.kg_visit.specs.Told.{IsAsked, IsReply, begun, is_reply, want_after, with_upstream, with_use};
-ghost use Rattle.kg_visit.specs.Walks.{AreBuilt, BeginsStage, BeginsWalk, NextWant, ReplyOrMessage, WantsOnRoute};
-ghost use Rattle.kg_visit.specs.declared.want.Want.TheVariants as AWant;
+ghost use Rattle.kg_course.specs.Plain.{no_route};
+ghost use Rattle.kg_course.specs.Wants.{IsReply, is_reply};
+ghost use Rattle.kg_visit.specs.Told.{IsAsked, begun, want_after, with_upstream, with_use};
+ghost use Rattle.kg_course.specs.Walks.{AreBuilt};
+ghost use Rattle.kg_visit.specs.Visits.{BeginsStage, NextWant};
+ghost use Rattle.kg_course.specs.declared.want.Want.TheVariants as AWant;
 
-use crate::filter::filter_all;
-use crate::moment::Moment;
 use crate::stage::Stage;
-use crate::upstream::{reply_of, up_request};
 use crate::used::Used;
-use crate::walk::{Walk, go_on};
-use crate::want::Want;
-use crate::way::{Way, way_to};
-use kg_context::{Given, ReqCtx, Upstream};
+use kg_context::{Given, Upstream};
+use kg_course::{Moment, Walk, Want, wanted_on_route};
 use kg_limit::Verdict;
 use kg_message::{Request, Response, message};
 use kg_plugin_table::PluginGen;
 use kg_router::RouterGen;
 use kg_text::{List, NoMemory, TryClone};
+use kg_upstream::way_to;
 use std::alloc::Global;
 use std::marker::Model;
 use std::sync::Arc;
@@ -51,7 +47,8 @@ pub struct Visit {
 impl Model for Visit {
     ghost use Rattle.std.specs.Arc.{arc_value};
     ghost use Rattle.kg_visit.specs.Told.{Told};
-    ghost use Rattle.kg_visit.specs.Walks.{AreBuilt, IsUnderWay, told_of};
+    ghost use Rattle.kg_course.specs.Walks.{AreBuilt};
+    ghost use Rattle.kg_visit.specs.Visits.{IsUnderWay, told_of};
 
     ghost Value = { Told };
 
@@ -151,13 +148,13 @@ impl Visit {
     }
 
     /// Tells it the answer to the message that it wants to send.
-    pub fn give_upstream(&mut self, alloc: Global, answer: Upstream) -> Result<(), NoMemory>
+    pub fn give_upstream(&mut self, alloc: Global, upstream: Upstream) -> Result<(), NoMemory>
         requires whole { self.old.lost ≡ false }
         requires wanted { (message : AMessage) × (want_after self.old ≡ AWant.Upstream message) }
-        ensures { OnOk result (self.new ≡ with_upstream answer self.old) }
+        ensures { OnOk result (self.new ≡ with_upstream upstream self.old) }
     {
         self.lost = true;
-        self.upstream = Some(answer);
+        self.upstream = Some(upstream);
         self.want = next_want(
             alloc,
             &self.plugins,
@@ -213,25 +210,12 @@ fn stage_of(alloc: Global, router: &RouterGen, request: Request) -> Result<Stage
     ensures { IfOk result (λ stage. BeginsStage (best_choice router.now.services router.now.routes request) request stage) }
 {
     match way_to(alloc, router, &request)? {
-        Some(way) => Ok(Stage::OnRoute(begun(alloc, way, request)?)),
+        Some(way) => Ok(Stage::OnRoute(Walk::begin(alloc, way, request)?)),
         None => Ok(Stage::NoRoute(request)),
     }
 }
 
-fn begun(alloc: Global, way: Way, request: Request) -> Result<Walk, NoMemory>
-    ensures { IfOk result (λ walk. BeginsWalk way request walk) }
-{
-    let ctx = ReqCtx::start(alloc, way.service, way.route, request)?;
-    Ok(Walk {
-        way,
-        ctx,
-        taken: 0,
-        turns: List::new(alloc),
-        limit: None,
-    })
-}
-
-#[tactic(auto, unfolding(crate::specs::Plain::no_route))]
+#[tactic(auto, unfolding(kg_course::specs::Plain::no_route))]
 fn no_route(alloc: Global) -> Result<Response, NoMemory>
     ensures { IfOk result (λ response. response ≡ no_route) }
 {
@@ -256,60 +240,5 @@ fn next_want(
             alloc, plugins, moment, given, verdicts, upstream, walk,
         ),
         Stage::NoRoute(_) => Ok(Want::Done(no_route(alloc)?)),
-    }
-}
-
-// What its plugins lack, or the upstream's answer, or nothing more than the reply.
-fn wanted_on_route(
-    alloc: Global,
-    plugins: &PluginGen,
-    moment: Moment,
-    given: &Given,
-    verdicts: &List<Verdict>,
-    upstream: &Option<Upstream>,
-    walk: &mut Walk,
-) -> Result<Want, NoMemory>
-    requires built { AreBuilt plugins.now.rows }
-    ensures { IfOk result (λ want. WantsOnRoute plugins.now.rows moment given.now verdicts.now upstream.now walk.old want walk.new) }
-{
-    match go_on(alloc, plugins, moment, given, verdicts, walk)? {
-        Some(lacking) => Ok(lacking),
-        None => finished(alloc, plugins, upstream, walk),
-    }
-}
-
-// The reply, or the message whose answer is lacking.
-fn finished(
-    alloc: Global,
-    plugins: &PluginGen,
-    upstream: &Option<Upstream>,
-    walk: &Walk,
-) -> Result<Want, NoMemory>
-    ensures { IfOk result (λ want. ReplyOrMessage plugins.now.rows upstream.now walk.now want) }
-{
-    match reply_before_filter(alloc, upstream, &walk.ctx)? {
-        Some(reply) => {
-            let mut reply = reply;
-            filter_all(alloc, plugins, walk, &mut reply)?;
-            Ok(Want::Done(reply))
-        }
-        None => Ok(Want::Upstream(up_request(alloc, &walk.way, &walk.ctx)?)),
-    }
-}
-
-// The reply of the plugin that ended the request, or what the upstream's answer becomes.
-fn reply_before_filter(
-    alloc: Global,
-    upstream: &Option<Upstream>,
-    ctx: &ReqCtx,
-) -> Result<Option<Response>, NoMemory>
-    ensures { IfOk result (λ reply. reply ≡ option_or ctx.now.end (option_map reply_of upstream.now)) }
-{
-    match &ctx.end {
-        Some(reply) => Ok(Some(reply.try_clone(alloc)?)),
-        None => match upstream {
-            Some(answer) => Ok(Some(reply_of(alloc, answer)?)),
-            None => Ok(None),
-        },
     }
 }

@@ -3,8 +3,8 @@ use Rattle.std.proofs.Common.{◌≡◌, true, Option, Some, is_some, refl, sym,
 use Rattle.kg_context.specs.declared.upstream.UpRequest.{UpRequest}
 use Rattle.kg_context.specs.declared.upstream.Upstream.{Upstream}
 use Rattle.kg_visit.specs.Told.{Told, want_after}
-use Rattle.kg_visit.specs.declared.want.Want.{Want}
-use Rattle.kg_visit.specs.declared.want.Want.TheVariants as want
+use Rattle.kg_course.specs.declared.want.Want.{Want}
+use Rattle.kg_course.specs.declared.want.Want.TheVariants as want
 use Rattle.visit_cases.specs.Wanted.{wants_upstream}
 
 message_of : (next : Want) → wants_upstream next ≡ true → (message : UpRequest) × (next ≡ want.Upstream message)

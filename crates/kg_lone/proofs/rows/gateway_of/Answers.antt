@@ -1,7 +1,7 @@
 use Rattle.std.proofs.Common.{◌≡◌, All, IfOk, subst}
 use Rattle.kg_row_types.specs.ValidRows.{IsValidPlugin, IsValidRoute}
 use Rattle.kg_router.specs.RouterRows.{HasDistinctRoutes}
-use Rattle.kg_visit.specs.Walks.{AreBuilt}
+use Rattle.kg_course.specs.Walks.{AreBuilt}
 use Rattle.kg_lone.proofs.InsertedLemmas.{are_built, holds_of, rows_are}
 use Rattle.kg_lone.proofs.rows.gateway_of.Goals as goal
 

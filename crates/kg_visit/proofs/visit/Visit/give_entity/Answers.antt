@@ -2,7 +2,7 @@ use Rattle.std.proofs.Common.{ap, ◌∙◌}
 use Rattle.std.specs.Arc.{arc_value}
 use Rattle.kg_context.specs.Given.{value_in}
 use Rattle.kg_visit.specs.Told.{want_after}
-use Rattle.kg_visit.specs.Walks.{request_of}
+use Rattle.kg_visit.specs.Visits.{request_of}
 use Rattle.kg_visit.proofs.GiveLemmas.{given_is, not_given, not_lost, told_at, use_told}
 use Rattle.kg_visit.proofs.visit.Visit.give_entity.Goals as goal
 

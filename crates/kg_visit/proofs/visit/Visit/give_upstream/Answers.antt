@@ -11,5 +11,5 @@ invariant_of-self-2 c =
       c.self.invariant.0,
       λ whole.
           upstream_told (arc_value v.router) (arc_value v.plugins) c.deref.result.now v.moment v.uses v.verdicts v.upstream v.given v.stage c.next_want.new.stage v.want c.in_ok-self-inside.field-0
-          c.requires.wanted.0 c.args.answer c.deref.ensures fits (ap want_after c.self.view_is ∙ c.requires.wanted.1) c.in_ok-self-inside.ensures,
+          c.requires.wanted.0 c.args.upstream c.deref.ensures fits (ap want_after c.self.view_is ∙ c.requires.wanted.1) c.in_ok-self-inside.ensures,
     )

@@ -1,0 +1,5 @@
+pub mod AnswerLemmas
+pub mod CourseLemmas
+pub mod OnlyUpstreamLemmas
+mod TurnLemmas
+pub mod WalkLemmas

@@ -1,0 +1,72 @@
+-- What each plugin does in the two phases that it runs in (Kong Gateway manual, "Plugin development": access and
+-- header_filter). The other plugins aren't run yet: no row of theirs is accepted.
+use Rattle.std.specs.Prelude.{ℕ, Bool, true, false, List, Option, Some, None}
+use Rattle.kg_row_types.specs.declared.config.Config.{Config}
+use Rattle.kg_row_types.specs.declared.config.Config.TheVariants as of_config
+use Rattle.kg_row_types.specs.declared.plugin.PluginRow.{PluginRow}
+use Rattle.kg_message.specs.declared.response.Response.{Response}
+use Rattle.kg_context.specs.Context.{ended}
+use Rattle.kg_context.specs.declared.context.ReqCtx.{ReqCtx}
+use Rattle.kg_limit.specs.declared.hit.Hit.{Hit}
+use Rattle.kg_limit.specs.declared.hit.Verdict.{Verdict}
+use Rattle.kg_guard.specs.Cors.{cors}
+use Rattle.kg_guard.specs.CorsHeaders.{cors_headers}
+use Rattle.kg_guard.specs.IpRestriction.{ip_restriction}
+use Rattle.kg_guard.specs.RequestSizeLimiting.{request_size_limiting}
+use Rattle.kg_guard.specs.RequestTermination.{request_termination}
+use Rattle.kg_transform.specs.RequestTransformer.{request_transformed}
+use Rattle.kg_transform.specs.ResponseTransformer.{response_transformed}
+use Rattle.kg_course.specs.Course.{Course, Leaves}
+use Rattle.kg_course.specs.declared.moment.Moment.{Moment}
+
+-- a request under way: its context, the rows chosen so far, and the verdict that it got, beside its hit
+pub record Under : Type 0 where
+  pub ctx : ReqCtx
+  pub chosen : List PluginRow
+  pub limit : Option (Hit × Verdict)
+
+abbrev pub changed : Under → ReqCtx → Under
+changed under ctx = record { ctx = ctx; chosen = under.chosen; limit = under.limit }
+
+-- a plugin that refuses ends the request
+abbrev pub ended_if : Option Response → ReqCtx → ReqCtx
+ended_if None ctx = ctx
+ended_if (Some reply) ctx = ended reply ctx
+
+-- what a guard leaves
+abbrev pub after_guard : Option Response × ReqCtx → ReqCtx
+after_guard met = ended_if met.0 met.1
+
+-- ---- access
+
+abbrev pub access_of : Config → Moment → ℕ → Under → Course Under
+access_of (of_config.Cors config) moment id under = Leaves (changed under (after_guard (cors config under.ctx)))
+access_of (of_config.IpRestriction config) moment id under = Leaves (changed under (ended_if (ip_restriction config under.ctx) under.ctx))
+access_of (of_config.RequestSizeLimiting config) moment id under = Leaves (changed under (ended_if (request_size_limiting config under.ctx) under.ctx))
+access_of (of_config.RequestTransformer config) moment id under = Leaves (changed under (request_transformed config under.ctx))
+access_of (of_config.RequestTermination config) moment id under = Leaves (changed under (ended (request_termination config) under.ctx))
+access_of _ moment id under = Leaves under
+
+-- the row of a plugin runs
+abbrev pub access : Moment → PluginRow → Under → Course Under
+access moment row under = access_of row.config moment row.id under
+
+-- ---- header_filter
+
+abbrev pub filter_of : Config → Under → Response → Response
+filter_of (of_config.Cors config) under reply = cors_headers config under.ctx reply
+filter_of (of_config.ResponseTransformer config) under reply = response_transformed config reply
+filter_of _ under reply = reply
+
+abbrev pub header_filter : Under → Response → PluginRow → Response
+header_filter under reply row = filter_of row.config under reply
+
+-- ---- which plugins run
+
+-- the plugins that are there, from which `Phases` leaves none out
+abbrev pub runs : Config → Bool
+runs (of_config.KeyAuth config) = false
+runs (of_config.BasicAuth config) = false
+runs (of_config.Acl config) = false
+runs (of_config.RateLimiting config) = false
+runs _ = true

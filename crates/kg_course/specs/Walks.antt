@@ -1,0 +1,116 @@
+-- Machinery for proofs: a walk over the plugins that stops at each question and goes on from there.
+use Rattle.std.specs.Prelude.{◌≡◌, ℕ, List, [], take, drop, ◌+◌, All, IsTrue, Option, Some, None, Result, Ok, Err, option_map, slice_get}
+use Rattle.std.specs.List.{flat_map}
+use Rattle.kg_row_types.specs.PluginNames.{plugins_in_order}
+use Rattle.kg_row_types.specs.declared.plugin.PluginName.{PluginName}
+use Rattle.kg_row_types.specs.declared.plugin.PluginRow.{PluginRow}
+use Rattle.kg_row_types.specs.declared.key.Key.{Key}
+use Rattle.kg_row_types.specs.declared.value.Value.{Value}
+use Rattle.kg_message.specs.declared.request.Request.{Request}
+use Rattle.kg_plugin_table.specs.Precedence.{chosen_row}
+use Rattle.kg_context.specs.Context.{started}
+use Rattle.kg_context.specs.Given.{Answer, value_in}
+use Rattle.kg_context.specs.declared.upstream.Upstream.{Upstream}
+use Rattle.kg_limit.specs.declared.hit.Hit.{Hit}
+use Rattle.kg_limit.specs.declared.hit.Verdict.{Verdict}
+use Rattle.kg_course.specs.Course.{Answers, Course, run, through}
+use Rattle.kg_course.specs.Phases.{Under, runs}
+use Rattle.kg_course.specs.Plain.{answers, finished, list_of, start, turn, walk, want_of}
+use Rattle.kg_course.specs.declared.moment.Moment.{Moment}
+use Rattle.kg_course.specs.declared.walk.Turn.{Turn}
+use Rattle.kg_course.specs.declared.walk.Walk.{Walk}
+use Rattle.kg_course.specs.declared.want.Want.{Want}
+use Rattle.kg_course.specs.declared.want.Want.TheVariants as want
+use Rattle.kg_upstream.specs.declared.way.Way.{Way}
+
+-- what has come of a question: nothing is lacking, or this
+abbrev pub outcome : {A : Type 0} → Option Want → A → Result A Want
+outcome None a = Ok a
+outcome (Some lacking) a = Err lacking
+
+-- the row that was chosen at a turn
+abbrev pub chosen_in : List PluginRow → Turn → List PluginRow
+chosen_in rows turn = list_of (chosen_row rows turn.name turn.scope)
+
+-- the hit with the first verdict
+abbrev pub limit_of : Option Hit → List Verdict → Option (Hit × Verdict)
+limit_of None verdicts = None
+limit_of (Some hit) verdicts = option_map (λ verdict. (hit, verdict)) (slice_get verdicts 0)
+
+-- the request that a walk stands for, with these rows chosen
+abbrev pub in_walk : List PluginRow → List Verdict → Walk → Under
+in_walk chosen verdicts walk = record { ctx = walk.ctx; chosen = chosen; limit = limit_of walk.limit verdicts }
+
+abbrev pub under_way : List PluginRow → List Verdict → Walk → Under
+under_way rows verdicts walk = in_walk (flat_map (chosen_in rows) walk.turns) verdicts walk
+
+-- a walk that stops at a question is as before
+abbrev pub KeepsWalk : Walk → Option Want → Walk → Type 0
+KeepsWalk before (Some lacking) now = now ≡ before
+KeepsWalk before None now = Unit {0}
+
+-- one row ran, whatever was chosen before and whatever the upstream answers
+pub record Runs (course : Under → Course Under) (given : List Answer) (verdicts : List Verdict) (before : Walk) (lacking : Option Want) (now : Walk) : Type 0 where
+  pub leads : (chosen : List PluginRow) (upstream : Option Upstream)
+      → run (course (in_walk chosen verdicts before)) (answers (value_in given) verdicts upstream) ≡ outcome lacking (in_walk chosen verdicts now)
+  pub kept : KeepsWalk before lacking now
+  pub turns : now.turns ≡ before.turns
+  pub taken : now.taken ≡ before.taken
+  pub way : now.way ≡ before.way
+  pub request : now.ctx.request ≡ before.ctx.request
+
+-- so many turns from the start lead here
+pub record HasCome (rows : List PluginRow) (moment : Moment) (given : Answers) (start : Under) (count : ℕ) (now : Under) : Type 0 where
+  pub so_far : run (walk rows moment (take count plugins_in_order) start) given ≡ Ok now
+
+-- the turns that are left lead from here to the end, or to what is lacking
+pub record Stands (rows : List PluginRow) (moment : Moment) (given : Answers) (count : ℕ) (now : Under) (lacking : Option Want) : Type 0 where
+  pub rest : run (walk rows moment (drop count plugins_in_order) now) given ≡ outcome lacking now
+
+-- whoever had come to the first walk has come to the second
+pub record HasComeOn (rows : List PluginRow) (moment : Moment) (given : List Answer) (verdicts : List Verdict) (before now : Walk) : Type 0 where
+  pub came : (start : Under) (upstream : Option Upstream)
+      → HasCome rows moment (answers (value_in given) verdicts upstream) start before.taken (under_way rows verdicts before)
+      → HasCome rows moment (answers (value_in given) verdicts upstream) start now.taken (under_way rows verdicts now)
+  pub way : now.way ≡ before.way
+  pub request : now.ctx.request ≡ before.ctx.request
+
+pub record Goes (rows : List PluginRow) (moment : Moment) (given : List Answer) (verdicts : List Verdict) (before : Walk) (lacking : Option Want) (now : Walk) : Type 0 where
+  pub on : HasComeOn rows moment given verdicts before now
+  pub stands : (upstream : Option Upstream)
+      → Stands rows moment (answers (value_in given) verdicts upstream) now.taken (under_way rows verdicts now) lacking
+
+-- ---- one turn
+
+-- a turn was taken: it is over, or it lacks something and the walk is as before
+pub record TakesTurn (rows : List PluginRow) (moment : Moment) (given : List Answer) (verdicts : List Verdict) (name : PluginName) (before : Walk) (lacking : Option Want) (now : Walk) : Type 0 where
+  pub leads : (upstream : Option Upstream)
+      → run (turn rows moment name (under_way rows verdicts before)) (answers (value_in given) verdicts upstream) ≡ outcome lacking (under_way rows verdicts now)
+  pub kept : KeepsWalk before lacking now
+  pub taken : lacking ≡ None → now.taken ≡ before.taken + 1
+  pub way : now.way ≡ before.way
+  pub request : now.ctx.request ≡ before.ctx.request
+
+-- every plugin that has a row is one that runs
+abbrev pub AreBuilt : List PluginRow → Type 0
+AreBuilt rows = All (λ row. IsTrue (runs row.config)) rows
+
+-- ---- all turns, and what follows
+
+-- a walk at its begin
+pub record BeginsWalk (to : Way) (asked : Request) (walk : Walk) : Type 0 where
+  pub way : walk.way ≡ to
+  pub ctx : walk.ctx ≡ started to.service to.route asked
+  pub taken : walk.taken ≡ 0
+  pub turns : walk.turns ≡ []
+  pub limit : walk.limit ≡ None
+
+-- the reply to a request that has come through access, or the message whose answer is lacking
+abbrev pub ReplyOrMessage : List PluginRow → Option Upstream → Walk → Want → Type 0
+ReplyOrMessage rows upstream come next = (entity : Key → Option Value) (verdicts : List Verdict)
+    → next ≡ want_of (run (finished come.way (under_way rows verdicts come)) (answers entity verdicts upstream))
+
+-- what is wanted next on a route: the walk has come on, and the rest of the course comes to this
+pub record WantsOnRoute (rows : List PluginRow) (moment : Moment) (given : List Answer) (verdicts : List Verdict) (upstream : Option Upstream) (before : Walk) (next : Want) (now : Walk) : Type 0 where
+  pub on : HasComeOn rows moment given verdicts before now
+  pub rest : next ≡ want_of (run (through (walk rows moment (drop now.taken plugins_in_order) (under_way rows verdicts now)) (finished now.way)) (answers (value_in given) verdicts upstream))

@@ -1,0 +1,39 @@
+//! Laws on what a request wants, for proofs of the crates above.
+
+ghost use Rattle.std.specs.Prelude.{◌≡◌, List as Sequence, Option, None, Ok, Err};
+ghost use Rattle.kg_message.specs.declared.response.Response.{Response as AResponse};
+ghost use Rattle.kg_course.specs.Course.{Answers, Course, run};
+ghost use Rattle.kg_course.specs.CourseLaws.{Extends, Lacking};
+ghost use Rattle.kg_course.specs.Plain.{Asked, plain};
+ghost use Rattle.kg_course.specs.Wants.{Asks};
+ghost use Rattle.kg_course.specs.declared.want.Want.{Want as AWant};
+ghost use Rattle.kg_course.specs.declared.want.Want.TheVariants as want;
+ghost use Rattle.kg_context.specs.declared.upstream.UpRequest.{UpRequest as AMessage};
+ghost use Rattle.kg_context.specs.declared.upstream.Upstream.{Upstream as AnAnswer};
+ghost use Rattle.kg_limit.specs.declared.hit.Verdict.{Verdict as AVerdict};
+ghost use Rattle.kg_row_types.specs.declared.key.Key.{Key as AKey};
+ghost use Rattle.kg_row_types.specs.declared.value.Value.{Value as AValue};
+
+/// What a course comes to stays so when more is told.
+pub fn more_answers_keep_the_reply()
+    ensures { (course : Course AResponse) (some more : Answers) (reply : AResponse)
+        → Extends some more → run course some ≡ Ok reply → run course more ≡ Ok reply }
+{}
+
+/// What is lacking has not been told.
+pub fn what_is_lacking_was_not_told()
+    ensures { (course : Course AResponse) (told : Answers) (lacking : AWant) → run course told ≡ Err lacking → Lacking told lacking }
+{}
+
+/// The first that is lacking stays so until it is told.
+pub fn the_first_lack_stays()
+    ensures { (course : Course AResponse) (some more : Answers) (lacking : AWant)
+        → Extends some more → Lacking more lacking → run course some ≡ Err lacking → run course more ≡ Err lacking }
+{}
+
+/// A request lacks nothing but the answer of its upstream: no plugin asks for rows or verdicts yet.
+pub fn only_the_upstream_is_asked()
+    ensures { (asked : Asked) (entity : AKey → Option AValue) (verdicts : Sequence AVerdict) (answer : Option AnAnswer) (lacking : AWant)
+        → plain asked entity verdicts answer ≡ lacking → Asks lacking
+        → (answer ≡ None) × ((message : AMessage) × (lacking ≡ want.Upstream message)) }
+{}

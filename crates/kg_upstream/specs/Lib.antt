@@ -1,0 +1,2 @@
+pub mod UpstreamMessage
+pub mod UpstreamPath

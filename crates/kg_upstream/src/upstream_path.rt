@@ -1,0 +1,99 @@
+//! The path and the Host that the upstream sees.
+
+ghost use Rattle.std.specs.Prelude.{◌≡◌, ◌++◌, IfOk, OnOk};
+ghost use Rattle.kg_router.specs.Found.{choice_at};
+ghost use Rattle.kg_upstream.specs.UpstreamPath.{base_of, host_for, host_with_port, joined_path, path_for, rest_of, slash_joined, without_first_slash, without_last_slash};
+
+use itoa::Buffer;
+use kg_message::Request;
+use kg_router::Choice;
+use kg_row_types::service::Service;
+use kg_text::{Bytes, NoMemory, TryClone};
+use std::alloc::Global;
+
+/// The path that the upstream is asked for: the service's path joined with what is left of the request's.
+pub fn path_for(alloc: Global, choice: &Choice<'_>, request: &Request) -> Result<Bytes, NoMemory>
+    ensures { IfOk result (λ path. path ≡ path_for (choice_at choice.now) request.now) }
+{
+    let base = base_path(choice.service);
+    let rest = rest_of(choice, request.path.as_bytes());
+    let mut path = Bytes::new(alloc);
+    put_path(&mut path, base, rest)?;
+    Ok(path)
+}
+
+/// The Host that the upstream sees: the client's where the route keeps it, else the service's.
+pub fn host_for(alloc: Global, choice: &Choice<'_>, request: &Request) -> Result<Bytes, NoMemory>
+    ensures { IfOk result (λ host. host ≡ host_for (choice_at choice.now) request.now) }
+{
+    if choice.route.preserve_host {
+        request.host.try_clone(alloc)
+    } else {
+        host_with_port(alloc, choice.service.host.as_bytes(), choice.service.port)
+    }
+}
+
+// The host, with its port if that isn't 80.
+fn host_with_port(alloc: Global, host: &[u8], port: u16) -> Result<Bytes, NoMemory>
+    ensures { IfOk result (λ text. text ≡ host_with_port host.now port) }
+{
+    let mut text = Bytes::from_slice(alloc, host)?;
+    if port != 80 {
+        text.push(b':')?;
+        text.extend_from_slice(Buffer::new().format(port).as_bytes())?;
+    }
+    Ok(text)
+}
+
+// Writes the service's path joined with what is left of the request's.
+fn put_path(out: &mut Bytes, base: &[u8], rest: &[u8]) -> Result<(), NoMemory>
+    ensures { OnOk result (out.new ≡ out.old ++ joined_path base.now rest.now) }
+{
+    if rest.is_empty() {
+        out.extend_from_slice(base)
+    } else {
+        put_joined(out, base, rest)
+    }
+}
+
+// Writes the base and the rest with one `/` between them.
+fn put_joined(out: &mut Bytes, base: &[u8], rest: &[u8]) -> Result<(), NoMemory>
+    ensures { OnOk result (out.new ≡ out.old ++ slash_joined base.now rest.now) }
+{
+    out.extend_from_slice(without_last_slash(base))?;
+    out.push(b'/')?;
+    out.extend_from_slice(without_first_slash(rest))
+}
+
+// The service's path, or `/`.
+fn base_path(service: &Service) -> &[u8]
+    ensures { result.now ≡ base_of service.now }
+{
+    match &service.path {
+        Some(path) => path.as_bytes(),
+        None => b"/",
+    }
+}
+
+// What is left of the request's path.
+fn rest_of<'a>(choice: &Choice<'_>, path: &'a [u8]) -> &'a [u8]
+    ensures { result.now ≡ rest_of (choice_at choice.now) path.now }
+{
+    if choice.route.strip_path {
+        path.get(choice.cut..).unwrap_or(b"")
+    } else {
+        path
+    }
+}
+
+fn without_last_slash(path: &[u8]) -> &[u8]
+    ensures { result.now ≡ without_last_slash path.now }
+{
+    path.strip_suffix(b"/").unwrap_or(path)
+}
+
+fn without_first_slash(path: &[u8]) -> &[u8]
+    ensures { result.now ≡ without_first_slash path.now }
+{
+    path.strip_prefix(b"/").unwrap_or(path)
+}
