@@ -3,7 +3,7 @@
 ghost use Rattle.std.specs.Prelude.{◌≡◌, IfOk};
 ghost use Rattle.kg_context.specs.Context.{pairs_of, started};
 
-use crate::upstream_fields::upstream_fields;
+use crate::client_fields::upstream_fields;
 use kg_message::{Headers, Request, Response};
 use kg_row_types::consumer::{BasicCred, Consumer, KeyCred};
 use kg_row_types::id::Id;

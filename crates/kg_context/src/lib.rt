@@ -4,6 +4,7 @@
 //! Plugins read the client's request, which nothing changes, and change the upstream headers and the query.
 #![tactic(auto)]
 
+mod client_fields;
 mod consumer;
 mod context;
 mod echo;
@@ -12,8 +13,8 @@ mod given;
 mod pairs;
 mod step;
 mod upstream;
-mod upstream_fields;
 
+pub use crate::client_fields::upstream_fields;
 pub use crate::consumer::set_consumer;
 pub use crate::context::{Credential, ReqCtx, pairs_of};
 pub use crate::echo::echo_of;
