@@ -1,0 +1,2 @@
+pub mod BasicAuth
+pub mod Logins
