@@ -16,7 +16,7 @@ use Rattle.kg_context.specs.declared.context.ReqCtx.{ReqCtx}
 use Rattle.kg_context.specs.declared.upstream.UpRequest.{UpRequest}
 use Rattle.kg_context.specs.declared.upstream.Upstream.{Upstream}
 use Rattle.kg_context.specs.declared.upstream.Upstream.TheVariants.{Answered, Fault, NotHttp}
-use Rattle.kg_upstream.specs.UpstreamPath.{host_for, path_for}
+use Rattle.kg_upstream.specs.UpstreamPath.{host_seen, path_for}
 use Rattle.kg_upstream.specs.declared.way.Way.{Way}
 
 -- ---- the query
@@ -43,24 +43,31 @@ upstream_query query pairs = if same_pairs pairs (pairs_of query) then as_it_cam
 
 -- ---- the message
 
--- what is kept of the choice for it: whom to call, how often, the Host and the path
+-- what is kept of the choice for it: whom to call, how often, which Host is seen, and the path
 abbrev pub way_of : Choice → Request → Way
 way_of choice request = record {
   service = choice.service.id;
   route = choice.route.id;
   target = record { host = choice.service.host; port = choice.service.port };
   retries = choice.service.retries;
-  host = host_for choice request;
+  preserve_host = choice.route.preserve_host;
   path = path_for choice request;
 }
 
 abbrev pub is_head : Request → Bool
 is_head request = bytes_eq request.method (codes "HEAD")
 
+-- the Host that the upstream sees on this way
+abbrev pub host_on : Way → Request → List ℕ
+host_on way request = host_seen way.preserve_host way.target.host way.target.port request
+
+-- the bytes of the message with this path and query
+abbrev pub bytes_to : List ℕ → Way → ReqCtx → List ℕ
+bytes_to target way ctx = upstream_text ctx.request.method target (host_on way ctx.request) ctx.request ctx.headers
+
 -- the bytes of the message for a request as the plugins leave it
 abbrev pub message_bytes : Way → ReqCtx → List ℕ
-message_bytes way ctx =
-    upstream_text ctx.request.method (way.path ++ upstream_query ctx.request.query ctx.query) way.host ctx.request ctx.headers
+message_bytes way ctx = bytes_to (way.path ++ upstream_query ctx.request.query ctx.query) way ctx
 
 -- the message, and whom it goes to
 unfoldable pub up_request : Way → ReqCtx → UpRequest

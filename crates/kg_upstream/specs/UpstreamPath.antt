@@ -1,6 +1,6 @@
 -- What the upstream is asked for: the service's path joined with the request's, and the Host that it
 -- sees (Kong Admin API, "Route": strip_path, preserve_host; the join is this project's own).
-use Rattle.std.specs.Prelude.{ℕ, ◌-◌, ◌==◌, List, ◌++◌, take, drop, length, nat_eq, codes, decimal, unwrap_or, if◌then◌else◌}
+use Rattle.std.specs.Prelude.{ℕ, Bool, ◌-◌, ◌==◌, List, ◌++◌, take, drop, length, nat_eq, codes, decimal, unwrap_or, if◌then◌else◌}
 use Rattle.std.specs.List.{starts_with, ends_with}
 use Rattle.kg_row_types.specs.declared.service.Service.{Service}
 use Rattle.kg_message.specs.declared.request.Request.{Request}
@@ -34,11 +34,18 @@ rest_of choice path = if choice.route.strip_path then drop choice.cut path else 
 abbrev pub path_for : Choice → Request → List ℕ
 path_for choice request = joined_path (base_of choice.service) (rest_of choice request.path)
 
+-- ---- the Host
+
+abbrev pub host_and_port : List ℕ → ℕ → List ℕ
+host_and_port host port = host ++ codes ":" ++ decimal port
+
 -- the host, with its port if that isn't 80
 abbrev pub host_with_port : List ℕ → ℕ → List ℕ
-host_with_port host port = if port == 80 then host else host ++ codes ":" ++ decimal port
+host_with_port host port = if port == 80 then host else host_and_port host port
 
--- the Host for a request, at its choice: the client's where the route keeps it, else the service's
+-- the Host for a request: the client's where the route keeps it, else that of the service's host and port
+abbrev pub host_seen : Bool → List ℕ → ℕ → Request → List ℕ
+host_seen preserve_host host port request = if preserve_host then request.host else host_with_port host port
+
 abbrev pub host_for : Choice → Request → List ℕ
-host_for choice request =
-    if choice.route.preserve_host then request.host else host_with_port choice.service.host choice.service.port
+host_for choice request = host_seen choice.route.preserve_host choice.service.host choice.service.port request

@@ -2,9 +2,12 @@
 //! reply that the answer becomes.
 #![tactic(auto)]
 
+mod host;
 mod upstream;
 mod upstream_path;
 mod way;
 
-pub use crate::upstream::{reply_of, up_request};
-pub use crate::way::{Way, way_to};
+pub use crate::host::message_text;
+pub use crate::upstream::{reply_by_echo, reply_of, up_request};
+pub use crate::upstream_path::path_for;
+pub use crate::way::{Way, way_of, way_to};

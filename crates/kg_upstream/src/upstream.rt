@@ -2,13 +2,15 @@
 
 ghost use Rattle.std.specs.Prelude.{◌≡◌, ◌++◌, IfOk, OnOk};
 ghost use Rattle.kg_context.specs.Context.{pairs_of};
-ghost use Rattle.kg_upstream.specs.UpstreamMessage.{as_it_came, bad_gateway, is_head, message_bytes, passed_on, reply_of, same_pairs, up_request, upstream_query, written};
+ghost use Rattle.kg_context.specs.Echo.{echo_of};
+ghost use Rattle.kg_context.specs.declared.upstream.Upstream.TheVariants.{Answered};
+ghost use Rattle.kg_upstream.specs.UpstreamMessage.{as_it_came, bad_gateway, bytes_to, is_head, message_bytes, passed_on, reply_of, same_pairs, up_request, upstream_query, written};
 
+use crate::host::message_text;
 use crate::way::Way;
-use kg_context::{ReqCtx, UpRequest, Upstream, pairs_of};
+use kg_context::{ReqCtx, UpRequest, Upstream, echo_of, pairs_of};
 use kg_message::{Request, Response, end_to_end, message};
 use kg_outside::Target;
-use kg_print::upstream::render_request;
 use kg_text::{Bytes, List, NoMemory, Pair, TryClone, query_text};
 use std::alloc::Global;
 
@@ -38,13 +40,24 @@ fn copy_of(alloc: Global, target: &Target) -> Result<Target, NoMemory>
 fn message_bytes(alloc: Global, way: &Way, ctx: &ReqCtx) -> Result<Bytes, NoMemory>
     ensures { IfOk result (λ bytes. bytes ≡ message_bytes way.now ctx.now) }
 {
+    if ctx.request.query.is_none() && ctx.query.is_empty() {
+        return bytes_to(alloc, way, way.path.as_slice(), ctx);
+    }
     let mut target = way.path.try_clone(alloc)?;
     put_query(alloc, &ctx.request.query, &ctx.query, &mut target)?;
-    render_request(
+    bytes_to(alloc, way, target.as_slice(), ctx)
+}
+
+// The bytes of the message with this path and query.
+fn bytes_to(alloc: Global, way: &Way, target: &[u8], ctx: &ReqCtx) -> Result<Bytes, NoMemory>
+    ensures { IfOk result (λ bytes. bytes ≡ bytes_to target.now way.now ctx.now) }
+{
+    message_text(
         alloc,
-        ctx.request.method.as_slice(),
-        target.as_slice(),
-        way.host.as_slice(),
+        way.preserve_host,
+        way.target.host.as_bytes(),
+        way.target.port,
+        target,
         &ctx.request,
         &ctx.headers,
     )
@@ -129,6 +142,13 @@ fn passed_on(alloc: Global, response: &Response) -> Result<Response, NoMemory>
         headers: end_to_end(alloc, &response.headers)?,
         body: response.body.try_clone(alloc)?,
     })
+}
+
+/// As `reply_of`, of the echo's answer to this message, which isn't copied.
+pub fn reply_by_echo(alloc: Global, message: Bytes) -> Result<Response, NoMemory>
+    ensures { IfOk result (λ reply. reply ≡ reply_of (Answered (echo_of message))) }
+{
+    echo_of(alloc, message)
 }
 
 #[tactic(auto, unfolding(crate::specs::UpstreamMessage::bad_gateway))]

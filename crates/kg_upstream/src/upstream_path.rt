@@ -1,14 +1,13 @@
-//! The path and the Host that the upstream sees.
+//! The path that the upstream is asked for.
 
 ghost use Rattle.std.specs.Prelude.{◌≡◌, ◌++◌, IfOk, OnOk};
 ghost use Rattle.kg_router.specs.Found.{choice_at};
-ghost use Rattle.kg_upstream.specs.UpstreamPath.{base_of, host_for, host_with_port, joined_path, path_for, rest_of, slash_joined, without_first_slash, without_last_slash};
+ghost use Rattle.kg_upstream.specs.UpstreamPath.{base_of, joined_path, path_for, rest_of, slash_joined, without_first_slash, without_last_slash};
 
-use itoa::Buffer;
 use kg_message::Request;
 use kg_router::Choice;
 use kg_row_types::service::Service;
-use kg_text::{Bytes, NoMemory, TryClone};
+use kg_text::{Bytes, NoMemory};
 use std::alloc::Global;
 
 /// The path that the upstream is asked for: the service's path joined with what is left of the request's.
@@ -20,29 +19,6 @@ pub fn path_for(alloc: Global, choice: &Choice<'_>, request: &Request) -> Result
     let mut path = Bytes::new(alloc);
     put_path(&mut path, base, rest)?;
     Ok(path)
-}
-
-/// The Host that the upstream sees: the client's where the route keeps it, else the service's.
-pub fn host_for(alloc: Global, choice: &Choice<'_>, request: &Request) -> Result<Bytes, NoMemory>
-    ensures { IfOk result (λ host. host ≡ host_for (choice_at choice.now) request.now) }
-{
-    if choice.route.preserve_host {
-        request.host.try_clone(alloc)
-    } else {
-        host_with_port(alloc, choice.service.host.as_bytes(), choice.service.port)
-    }
-}
-
-// The host, with its port if that isn't 80.
-fn host_with_port(alloc: Global, host: &[u8], port: u16) -> Result<Bytes, NoMemory>
-    ensures { IfOk result (λ text. text ≡ host_with_port host.now port) }
-{
-    let mut text = Bytes::from_slice(alloc, host)?;
-    if port != 80 {
-        text.push(b':')?;
-        text.extend_from_slice(Buffer::new().format(port).as_bytes())?;
-    }
-    Ok(text)
 }
 
 // Writes the service's path joined with what is left of the request's.

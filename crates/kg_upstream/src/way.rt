@@ -5,7 +5,7 @@ ghost use Rattle.kg_router.specs.Best.{best_choice};
 ghost use Rattle.kg_router.specs.Found.{choice_at};
 ghost use Rattle.kg_upstream.specs.UpstreamMessage.{way_of};
 
-use crate::upstream_path::{host_for, path_for};
+use crate::upstream_path::path_for;
 use kg_message::Request;
 use kg_outside::Target;
 use kg_router::{Choice, RouterGen};
@@ -22,8 +22,8 @@ pub struct Way {
     pub target: Target,
     /// How many further dials follow one that failed.
     pub retries: u16,
-    /// The Host that the upstream sees.
-    pub host: Bytes,
+    /// Whether the upstream sees the client's Host, and not that of the service.
+    pub preserve_host: bool,
     /// The path that it is asked for.
     pub path: Bytes,
 }
@@ -38,7 +38,8 @@ pub fn way_to(alloc: Global, router: &RouterGen, request: &Request) -> Result<Op
     }
 }
 
-fn way_of(alloc: Global, choice: &Choice<'_>, request: &Request) -> Result<Way, NoMemory>
+/// The way of a request at its choice.
+pub fn way_of(alloc: Global, choice: &Choice<'_>, request: &Request) -> Result<Way, NoMemory>
     ensures { IfOk result (λ way. way ≡ way_of (choice_at choice.now) request.now) }
 {
     let service = choice.service;
@@ -50,7 +51,7 @@ fn way_of(alloc: Global, choice: &Choice<'_>, request: &Request) -> Result<Way, 
             port: service.port,
         },
         retries: service.retries,
-        host: host_for(alloc, choice, request)?,
+        preserve_host: choice.route.preserve_host,
         path: path_for(alloc, choice, request)?,
     })
 }
