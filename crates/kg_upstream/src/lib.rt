@@ -8,6 +8,6 @@ mod upstream_path;
 mod way;
 
 pub use crate::host::message_text;
-pub use crate::upstream::{reply_by_echo, reply_of, up_request};
+pub use crate::upstream::{put_as_it_came, reply_by_echo, reply_of, up_request};
 pub use crate::upstream_path::path_for;
 pub use crate::way::{Way, way_of, way_to};

@@ -98,7 +98,8 @@ fn has_same_pairs(
     Ok(*pairs == came)
 }
 
-fn put_as_it_came(query: &Option<Bytes>, out: &mut Bytes) -> Result<(), NoMemory>
+/// Writes the query behind its `?`, as it came, if there is one.
+pub fn put_as_it_came(query: &Option<Bytes>, out: &mut Bytes) -> Result<(), NoMemory>
     ensures { OnOk result (out.new ≡ out.old ++ as_it_came query.now) }
 {
     match query {
