@@ -1,16 +1,15 @@
 //! Requests that are counted, and verdicts on them.
 
-use kg_row_types::id::Id;
-use kg_text::{Bytes, List};
+ghost use Rattle.std.specs.Prelude.{◌≡◌, ◌++◌, IfOk, OnOk};
+ghost use Rattle.kg_limit.specs.Hits.{hit_of, limit_in, limits_of};
 
-/// A window of time in which requests are counted.
-#[derive(Clone, Copy, PartialEq, Eq)]
-pub enum Window {
-    Second,
-    Minute,
-    Hour,
-    Day,
-}
+use crate::identity::identity_of;
+use crate::window::Window;
+use kg_context::ReqCtx;
+use kg_row_types::config::RateLimiting;
+use kg_row_types::id::Id;
+use kg_text::{Bytes, List, NoMemory};
+use std::alloc::Global;
 
 /// A request that is to be counted.
 #[derive(Drop)]
@@ -37,4 +36,52 @@ pub struct Verdict {
     pub let_through: bool,
     /// How many further requests may come in each window.
     pub left: List<(Window, u64)>,
+}
+
+/// The hit of a request at the row of a plugin. `now` is the clock's reading in milliseconds, `who` the number of
+/// the worker.
+pub fn hit_of(
+    alloc: Global,
+    config: &RateLimiting,
+    row: Id,
+    ctx: &ReqCtx,
+    now: u64,
+    who: u32,
+) -> Result<Hit, NoMemory>
+    ensures { IfOk result (λ hit. hit ≡ hit_of config.now row ctx.now now who) }
+{
+    let identity = identity_of(alloc, config.limit_by, ctx)?;
+    let limits = limits_of(alloc, config)?;
+    Ok(Hit {
+        row,
+        identity,
+        limits,
+        now,
+        who,
+    })
+}
+
+// The limits that are set, from the shortest window on.
+fn limits_of(alloc: Global, config: &RateLimiting) -> Result<List<(Window, u64)>, NoMemory>
+    ensures { IfOk result (λ limits. limits ≡ limits_of config.now) }
+{
+    let mut limits = List::from_vec(Vec::with_capacity(alloc, 4)?);
+    add_limit(&mut limits, Window::Second, config.second)?;
+    add_limit(&mut limits, Window::Minute, config.minute)?;
+    add_limit(&mut limits, Window::Hour, config.hour)?;
+    add_limit(&mut limits, Window::Day, config.day)?;
+    Ok(limits)
+}
+
+fn add_limit(
+    limits: &mut List<(Window, u64)>,
+    window: Window,
+    limit: Option<u64>,
+) -> Result<(), NoMemory>
+    ensures { OnOk result (limits.new ≡ limits.old ++ limit_in window limit) }
+{
+    match limit {
+        Some(limit) => limits.push((window, limit)),
+        None => Ok(()),
+    }
 }

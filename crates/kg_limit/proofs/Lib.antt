@@ -1,0 +1,6 @@
+mod CountLemmas
+mod FieldLemmas
+mod HitLemmas
+mod IdLemmas
+mod WindowLemmas
+mod ZipLemmas
