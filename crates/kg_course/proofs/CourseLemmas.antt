@@ -3,9 +3,9 @@ use Rattle.std.proofs.Common.{◌≡◌, ◌⊎◌, inl, inr, Option, Some, None
 use Rattle.kg_row_types.specs.declared.value.Value.{Value}
 use Rattle.kg_row_types.specs.declared.key.Key.{Key}
 use Rattle.kg_context.specs.Rule.{Rule, Leaves as rule_leaves, Asks as rule_asks, access, with_value}
-use Rattle.kg_context.specs.declared.context.ReqCtx.{ReqCtx}
 use Rattle.kg_course.specs.Course.{Answers, Course, Leaves, AsksEntity, AsksVerdict, AsksUpstream, of_rule, run, through, with_answer}
 use Rattle.kg_course.specs.CourseLaws.{Extends, Lacking}
+use Rattle.kg_course.specs.Steps.{wanted}
 use Rattle.kg_course.specs.declared.want.Want.{Want}
 use Rattle.kg_course.specs.declared.want.Want.TheVariants as want
 
@@ -123,11 +123,6 @@ run_still (AsksUpstream message next) some more lacking extends lacks is =
     ]
 
 -- ---- a plugin's rule
-
--- what a rule comes to, as a course does
-abbrev pub wanted : Result ReqCtx Key → Result ReqCtx Want
-wanted (Ok ctx) = Ok ctx
-wanted (Err key) = Err (want.Entity key)
 
 -- with the value of a key, or without it
 rule_answer : (key : Key) (next : Value → Rule) (told : Answers) → ((v : Value) → run (of_rule (next v)) told ≡ wanted (access (next v) told.entity))

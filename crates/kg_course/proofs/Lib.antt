@@ -1,5 +1,7 @@
 pub mod AnswerLemmas
+pub mod AskingLemmas
+pub mod BoundLemmas
 pub mod CourseLemmas
-pub mod OnlyUpstreamLemmas
 mod TurnLemmas
+pub mod UpstreamLemmas
 pub mod WalkLemmas

@@ -83,8 +83,8 @@ goes_on rows moment given verdicts begin before now name on next turned = record
       let told = answers (value_in given) verdicts upstream in
       subst (λ count. HasCome rows moment told start count (under_way rows verdicts now)) (sym (turned.taken refl))
       (came_on rows moment told start (under_way rows verdicts before) (under_way rows verdicts now) before.taken name (on.came start upstream come) next (turned.leads upstream));
-  way = turned.way ∙ on.way;
   request = turned.request ∙ on.request;
+  counted = λ uncounted. turned.counted (on.counted uncounted);
 }
 
 -- a turn lacks something: the walk stops where it stands

@@ -1,7 +1,7 @@
 pub mod Course
 pub mod CourseLaws
-pub mod OnlyUpstream
 pub mod Phases
 pub mod Plain
+pub mod Steps
 pub mod Walks
 pub mod Wants

@@ -1,5 +1,5 @@
 -- Machinery for proofs: a walk over the plugins that stops at each question and goes on from there.
-use Rattle.std.specs.Prelude.{◌≡◌, ℕ, List, [], take, drop, ◌+◌, All, IsTrue, Option, Some, None, Result, Ok, Err, option_map, slice_get}
+use Rattle.std.specs.Prelude.{◌≡◌, ℕ, List, [], take, drop, ◌+◌, Option, Some, None, Ok, option_map, slice_get}
 use Rattle.std.specs.List.{flat_map}
 use Rattle.kg_row_types.specs.PluginNames.{plugins_in_order}
 use Rattle.kg_row_types.specs.declared.plugin.PluginName.{PluginName}
@@ -10,23 +10,20 @@ use Rattle.kg_message.specs.declared.request.Request.{Request}
 use Rattle.kg_plugin_table.specs.Precedence.{chosen_row}
 use Rattle.kg_context.specs.Context.{started}
 use Rattle.kg_context.specs.Given.{Answer, value_in}
+use Rattle.kg_context.specs.declared.upstream.UpRequest.{UpRequest}
 use Rattle.kg_context.specs.declared.upstream.Upstream.{Upstream}
 use Rattle.kg_limit.specs.declared.hit.Hit.{Hit}
 use Rattle.kg_limit.specs.declared.hit.Verdict.{Verdict}
 use Rattle.kg_course.specs.Course.{Answers, Course, run, through}
-use Rattle.kg_course.specs.Phases.{Under, runs}
-use Rattle.kg_course.specs.Plain.{answers, finished, list_of, start, turn, walk, want_of}
+use Rattle.kg_course.specs.Phases.{Under}
+use Rattle.kg_course.specs.Plain.{answers, finished, list_of, turn, walk, want_of}
+use Rattle.kg_course.specs.Steps.{outcome}
 use Rattle.kg_course.specs.declared.moment.Moment.{Moment}
 use Rattle.kg_course.specs.declared.walk.Turn.{Turn}
 use Rattle.kg_course.specs.declared.walk.Walk.{Walk}
 use Rattle.kg_course.specs.declared.want.Want.{Want}
 use Rattle.kg_course.specs.declared.want.Want.TheVariants as want
 use Rattle.kg_upstream.specs.declared.way.Way.{Way}
-
--- what has come of a question: nothing is lacking, or this
-abbrev pub outcome : {A : Type 0} → Option Want → A → Result A Want
-outcome None a = Ok a
-outcome (Some lacking) a = Err lacking
 
 -- the row that was chosen at a turn
 abbrev pub chosen_in : List PluginRow → Turn → List PluginRow
@@ -56,8 +53,8 @@ pub record Runs (course : Under → Course Under) (given : List Answer) (verdict
   pub kept : KeepsWalk before lacking now
   pub turns : now.turns ≡ before.turns
   pub taken : now.taken ≡ before.taken
-  pub way : now.way ≡ before.way
   pub request : now.ctx.request ≡ before.ctx.request
+  pub counted : (verdicts ≡ [] → before.limit ≡ None) → verdicts ≡ [] → now.limit ≡ None
 
 -- so many turns from the start lead here
 pub record HasCome (rows : List PluginRow) (moment : Moment) (given : Answers) (start : Under) (count : ℕ) (now : Under) : Type 0 where
@@ -72,8 +69,8 @@ pub record HasComeOn (rows : List PluginRow) (moment : Moment) (given : List Ans
   pub came : (start : Under) (upstream : Option Upstream)
       → HasCome rows moment (answers (value_in given) verdicts upstream) start before.taken (under_way rows verdicts before)
       → HasCome rows moment (answers (value_in given) verdicts upstream) start now.taken (under_way rows verdicts now)
-  pub way : now.way ≡ before.way
   pub request : now.ctx.request ≡ before.ctx.request
+  pub counted : (verdicts ≡ [] → before.limit ≡ None) → verdicts ≡ [] → now.limit ≡ None
 
 pub record Goes (rows : List PluginRow) (moment : Moment) (given : List Answer) (verdicts : List Verdict) (before : Walk) (lacking : Option Want) (now : Walk) : Type 0 where
   pub on : HasComeOn rows moment given verdicts before now
@@ -88,29 +85,31 @@ pub record TakesTurn (rows : List PluginRow) (moment : Moment) (given : List Ans
       → run (turn rows moment name (under_way rows verdicts before)) (answers (value_in given) verdicts upstream) ≡ outcome lacking (under_way rows verdicts now)
   pub kept : KeepsWalk before lacking now
   pub taken : lacking ≡ None → now.taken ≡ before.taken + 1
-  pub way : now.way ≡ before.way
   pub request : now.ctx.request ≡ before.ctx.request
-
--- every plugin that has a row is one that runs
-abbrev pub AreBuilt : List PluginRow → Type 0
-AreBuilt rows = All (λ row. IsTrue (runs row.config)) rows
+  pub counted : (verdicts ≡ [] → before.limit ≡ None) → verdicts ≡ [] → now.limit ≡ None
 
 -- ---- all turns, and what follows
 
 -- a walk at its begin
-pub record BeginsWalk (to : Way) (asked : Request) (walk : Walk) : Type 0 where
-  pub way : walk.way ≡ to
-  pub ctx : walk.ctx ≡ started to.service to.route asked
+pub record BeginsWalk (way : Way) (asked : Request) (walk : Walk) : Type 0 where
+  pub ctx : walk.ctx ≡ started way.service way.route asked
   pub taken : walk.taken ≡ 0
   pub turns : walk.turns ≡ []
   pub limit : walk.limit ≡ None
 
--- the reply to a request that has come through access, or the message whose answer is lacking
-abbrev pub ReplyOrMessage : List PluginRow → Option Upstream → Walk → Want → Type 0
-ReplyOrMessage rows upstream come next = (entity : Key → Option Value) (verdicts : List Verdict)
-    → next ≡ want_of (run (finished come.way (under_way rows verdicts come)) (answers entity verdicts upstream))
+-- the reply to a request that a plugin ended, or the message whose answer is lacking
+pub record RepliesOrAsks (rows : List PluginRow) (way : Way) (verdicts : List Verdict) (come : Walk) (next : Want) : Type 0 where
+  pub rest : (entity : Key → Option Value) → next ≡ want_of (run (finished way (under_way rows verdicts come)) (answers entity verdicts None))
+  pub not_ended : (message : UpRequest) → next ≡ want.Upstream message → come.ctx.end ≡ None
 
--- what is wanted next on a route: the walk has come on, and the rest of the course comes to this
-pub record WantsOnRoute (rows : List PluginRow) (moment : Moment) (given : List Answer) (verdicts : List Verdict) (upstream : Option Upstream) (before : Walk) (next : Want) (now : Walk) : Type 0 where
+-- the plugins ask nothing more, whatever the upstream answers, and none of them ended the request
+pub record IsOver (rows : List PluginRow) (moment : Moment) (given : List Answer) (verdicts : List Verdict) (now : Walk) : Type 0 where
+  pub stands : (upstream : Option Upstream) → Stands rows moment (answers (value_in given) verdicts upstream) now.taken (under_way rows verdicts now) None
+  pub not_ended : now.ctx.end ≡ None
+
+-- what is wanted next on a route, before the upstream has answered: the walk has come on, and the rest of the course
+-- comes to this
+pub record WantsOnRoute (rows : List PluginRow) (way : Way) (moment : Moment) (given : List Answer) (verdicts : List Verdict) (before : Walk) (next : Want) (now : Walk) : Type 0 where
   pub on : HasComeOn rows moment given verdicts before now
-  pub rest : next ≡ want_of (run (through (walk rows moment (drop now.taken plugins_in_order) (under_way rows verdicts now)) (finished now.way)) (answers (value_in given) verdicts upstream))
+  pub rest : next ≡ want_of (run (through (walk rows moment (drop now.taken plugins_in_order) (under_way rows verdicts now)) (finished way)) (answers (value_in given) verdicts None))
+  pub over : (message : UpRequest) → next ≡ want.Upstream message → IsOver rows moment given verdicts now

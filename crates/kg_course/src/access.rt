@@ -1,11 +1,13 @@
 //! One row in the phase access.
 
-ghost use Rattle.std.specs.Prelude.{◌≡◌, IfOk, IsTrue, OnOk};
+ghost use Rattle.std.specs.Prelude.{◌≡◌, IfOk, OnOk};
 ghost use Rattle.kg_row_types.specs.ValidRows.{IsValidPlugin};
 ghost use Rattle.kg_guard.specs.Guards.{IsValidGuard, guarded};
-ghost use Rattle.kg_course.specs.Phases.{access, after_guard, runs};
+ghost use Rattle.kg_course.specs.Phases.{access, after_guard};
 ghost use Rattle.kg_course.specs.Walks.{Runs};
 
+use crate::asking::{run_acl, run_basic_auth, run_key_auth};
+use crate::limiting::run_rate_limiting;
 use crate::moment::Moment;
 use crate::walk::Walk;
 use crate::want::Want;
@@ -27,8 +29,7 @@ pub fn access(
     verdicts: &List<Verdict>,
     walk: &mut Walk,
 ) -> Result<Option<Want>, NoMemory>
-    requires valid { IsValidPlugin row.now }
-    requires built { IsTrue (runs row.now.config) }
+    requires { IsValidPlugin row.now }
     ensures { IfOk result (λ lacking. Runs (access moment row.now) given.now verdicts.now walk.old lacking walk.new) }
 {
     match &row.config {
@@ -36,6 +37,8 @@ pub fn access(
             run_guard(alloc, &GuardConfig::Cors(config), &mut walk.ctx)?;
             Ok(None)
         }
+        Config::KeyAuth(config) => run_key_auth(alloc, config, given, &mut walk.ctx),
+        Config::BasicAuth(config) => run_basic_auth(alloc, config, given, &mut walk.ctx),
         Config::IpRestriction(config) => {
             run_guard(alloc, &GuardConfig::IpRestriction(config), &mut walk.ctx)?;
             Ok(None)
@@ -48,6 +51,15 @@ pub fn access(
             )?;
             Ok(None)
         }
+        Config::Acl(config) => run_acl(alloc, config, given, &mut walk.ctx),
+        Config::RateLimiting(config) => run_rate_limiting(
+            alloc, config, row.id, moment, verdicts, walk,
+        ),
+        Config::RequestTransformer(config) => {
+            transform_request(alloc, config, &mut walk.ctx)?;
+            Ok(None)
+        }
+        Config::ResponseTransformer(_) => Ok(None),
         Config::RequestTermination(config) => {
             run_guard(
                 alloc,
@@ -56,15 +68,6 @@ pub fn access(
             )?;
             Ok(None)
         }
-        Config::RequestTransformer(config) => {
-            transform_request(alloc, config, &mut walk.ctx)?;
-            Ok(None)
-        }
-        Config::ResponseTransformer(_) => Ok(None),
-        Config::KeyAuth(_) => unreachable!(),
-        Config::BasicAuth(_) => unreachable!(),
-        Config::Acl(_) => unreachable!(),
-        Config::RateLimiting(_) => unreachable!(),
     }
 }
 
@@ -78,22 +81,4 @@ fn run_guard(alloc: Global, config: &GuardConfig<'_>, ctx: &mut ReqCtx) -> Resul
         None => {}
     }
     Ok(())
-}
-
-/// Is the plugin of this config one that runs? The others aren't there yet.
-pub fn runs(config: &Config) -> bool
-    ensures { result ≡ runs config.now }
-{
-    match config {
-        Config::KeyAuth(_) => false,
-        Config::BasicAuth(_) => false,
-        Config::Acl(_) => false,
-        Config::RateLimiting(_) => false,
-        Config::Cors(_) => true,
-        Config::IpRestriction(_) => true,
-        Config::RequestSizeLimiting(_) => true,
-        Config::RequestTransformer(_) => true,
-        Config::ResponseTransformer(_) => true,
-        Config::RequestTermination(_) => true,
-    }
 }

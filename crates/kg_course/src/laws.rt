@@ -1,11 +1,11 @@
 //! Laws on what a request wants, for proofs of the crates above.
 
-ghost use Rattle.std.specs.Prelude.{◌≡◌, List as Sequence, Option, None, Ok, Err};
+ghost use Rattle.std.specs.Prelude.{◌≡◌, ◌<◌, ◌≤◌, List as Sequence, Option, Some, None, Ok, Err};
 ghost use Rattle.kg_message.specs.declared.response.Response.{Response as AResponse};
 ghost use Rattle.kg_course.specs.Course.{Answers, Course, run};
-ghost use Rattle.kg_course.specs.CourseLaws.{Extends, Lacking};
-ghost use Rattle.kg_course.specs.Plain.{Asked, plain};
-ghost use Rattle.kg_course.specs.Wants.{Asks};
+ghost use Rattle.kg_course.specs.CourseLaws.{Extends, IsTold, Lacking, passed};
+ghost use Rattle.kg_course.specs.Plain.{Asked, course, plain};
+ghost use Rattle.kg_course.specs.Wants.{IsReply};
 ghost use Rattle.kg_course.specs.declared.want.Want.{Want as AWant};
 ghost use Rattle.kg_course.specs.declared.want.Want.TheVariants as want;
 ghost use Rattle.kg_context.specs.declared.upstream.UpRequest.{UpRequest as AMessage};
@@ -31,9 +31,20 @@ pub fn the_first_lack_stays()
         → Extends some more → Lacking more lacking → run course some ≡ Err lacking → run course more ≡ Err lacking }
 {}
 
-/// A request lacks nothing but the answer of its upstream: no plugin asks for rows or verdicts yet.
-pub fn only_the_upstream_is_asked()
-    ensures { (asked : Asked) (entity : AKey → Option AValue) (verdicts : Sequence AVerdict) (answer : Option AnAnswer) (lacking : AWant)
-        → plain asked entity verdicts answer ≡ lacking → Asks lacking
-        → (answer ≡ None) × ((message : AMessage) × (lacking ≡ want.Upstream message)) }
+/// An answer to what is lacking leads past one more question, or more.
+pub fn an_answer_leads_further()
+    ensures { (course : Course AResponse) (some more : Answers) (lacking : AWant)
+        → Extends some more → IsTold more lacking → run course some ≡ Err lacking → passed course some < passed course more }
+{}
+
+/// Whatever is answered, a request leads past at most 9 questions: key-auth and basic-auth ask for at most 3 values
+/// each, acl for 1, rate-limiting for 1 verdict, and the upstream answers once.
+pub fn few_questions_are_asked()
+    ensures { (asked : Asked) (told : Answers) → passed (course asked) told ≤ 9 }
+{}
+
+/// Nothing is asked behind the upstream: with its answer the reply is there.
+pub fn the_upstream_is_asked_last()
+    ensures { (asked : Asked) (entity : AKey → Option AValue) (verdicts : Sequence AVerdict) (message : AMessage) (answer : AnAnswer)
+        → plain asked entity verdicts None ≡ want.Upstream message → IsReply (plain asked entity verdicts (Some answer)) }
 {}

@@ -1,11 +1,10 @@
 //! The way of a request through the phase access.
 
-ghost use Rattle.std.specs.Prelude.{◌≡◌, IfOk, IsTrue, Some, slice_get};
+ghost use Rattle.std.specs.Prelude.{◌≡◌, IfOk, Some, slice_get};
 ghost use Rattle.kg_row_types.specs.PluginNames.{plugins_in_order};
 ghost use Rattle.kg_row_types.specs.ValidRows.{IsValidPlugin};
-ghost use Rattle.kg_course.specs.Phases.{runs};
 ghost use Rattle.kg_course.specs.Plain.{ran, scope_of};
-ghost use Rattle.kg_course.specs.Walks.{AreBuilt, BeginsWalk, Goes, Runs, TakesTurn};
+ghost use Rattle.kg_course.specs.Walks.{BeginsWalk, Goes, Runs, TakesTurn};
 
 use crate::access::access;
 use crate::moment::Moment;
@@ -44,7 +43,6 @@ pub struct Turn {
 /// A request on its walk over the plugins.
 #[derive(Drop)]
 pub struct Walk {
-    pub way: Way,
     pub ctx: ReqCtx,
     /// How many turns are over.
     pub taken: usize,
@@ -55,13 +53,12 @@ pub struct Walk {
 }
 
 impl Walk {
-    /// A request at its route, before the first plugin.
-    pub fn begin(alloc: Global, way: Way, request: Request) -> Result<Walk, NoMemory>
-        ensures { IfOk result (λ walk. BeginsWalk way request walk) }
+    /// A request on its way, before the first plugin.
+    pub fn begin(alloc: Global, way: &Way, request: Request) -> Result<Walk, NoMemory>
+        ensures { IfOk result (λ walk. BeginsWalk way.now request walk) }
     {
         let ctx = ReqCtx::start(alloc, way.service, way.route, request)?;
         Ok(Walk {
-            way,
             ctx,
             taken: 0,
             turns: List::new(alloc),
@@ -79,11 +76,13 @@ pub fn go_on(
     verdicts: &List<Verdict>,
     walk: &mut Walk,
 ) -> Result<Option<Want>, NoMemory>
-    requires built { AreBuilt plugins.now.rows }
     ensures { IfOk result (λ lacking. Goes plugins.now.rows moment given.now verdicts.now walk.old lacking walk.new) }
 {
+    let mut scope = scope_of(&walk.ctx);
     while let Some(name) = name_at(walk.taken) {
-        match take_turn(alloc, plugins, moment, given, verdicts, name, walk)? {
+        match take_turn(
+            alloc, plugins, moment, given, verdicts, name, &mut scope, walk,
+        )? {
             Some(lacking) => return Ok(Some(lacking)),
             None => {}
         }
@@ -97,7 +96,8 @@ fn name_at(taken: usize) -> Option<PluginName>
     PLUGINS.get(taken).copied()
 }
 
-// Takes the turn of a plugin: its row is chosen, and runs. A turn that lacks something isn't over.
+// Takes the turn of a plugin: its row is chosen, and runs. A turn that lacks something isn't over. The scope is that of
+// the request, which a row that runs may change.
 fn take_turn(
     alloc: Global,
     plugins: &PluginGen,
@@ -105,18 +105,26 @@ fn take_turn(
     given: &Given,
     verdicts: &List<Verdict>,
     name: PluginName,
+    scope: &mut Scope,
     walk: &mut Walk,
 ) -> Result<Option<Want>, NoMemory>
-    requires built { AreBuilt plugins.now.rows }
     requires next { slice_get plugins_in_order walk.old.taken ≡ Some name }
-    ensures { IfOk result (λ lacking. TakesTurn plugins.now.rows moment given.now verdicts.now name walk.old lacking walk.new) }
+    requires known { scope.old ≡ scope_of walk.old.ctx }
+    ensures turn { IfOk result (λ lacking. TakesTurn plugins.now.rows moment given.now verdicts.now name walk.old lacking walk.new) }
+    ensures known { IfOk result (λ lacking. scope.new ≡ scope_of walk.new.ctx) }
 {
-    let scope = scope_of(&walk.ctx);
-    match plugins.choose(name, &scope) {
-        Some(row) => match run_row(alloc, row, moment, given, verdicts, walk)? {
-            Some(lacking) => return Ok(Some(lacking)),
-            None => walk.turns.push(Turn { name, scope })?,
-        },
+    match plugins.choose(name, scope) {
+        Some(row) => {
+            match run_row(alloc, row, moment, given, verdicts, walk)? {
+                Some(lacking) => return Ok(Some(lacking)),
+                None => {}
+            }
+            walk.turns.push(Turn {
+                name,
+                scope: *scope,
+            })?;
+            *scope = scope_of(&walk.ctx);
+        }
         None => {}
     }
     walk.taken += 1;
@@ -132,8 +140,7 @@ fn run_row(
     verdicts: &List<Verdict>,
     walk: &mut Walk,
 ) -> Result<Option<Want>, NoMemory>
-    requires valid { IsValidPlugin row.now }
-    requires built { IsTrue (runs row.now.config) }
+    requires { IsValidPlugin row.now }
     ensures { IfOk result (λ lacking. Runs (ran moment (Some row.now)) given.now verdicts.now walk.old lacking walk.new) }
 {
     if walk.ctx.end.is_some() {
