@@ -91,6 +91,12 @@ unchanged from old new same = record {
     kept_same : (key : CountKey) → kept new key ≡ kept old key
     kept_same key = ap (lookup (key_eq key)) same
 
+pub told_on : (from : ℕ) (first second third : CountTable) → TellsSame from first second → TellsSame from second third → TellsSame from first third
+told_on from first second third one two = record {
+  used = λ key window time later. two.used key window time later ∙ one.used key window time later;
+  ahead = λ time not_ahead. two.ahead time (one.ahead time not_ahead);
+}
+
 -- one change after the other; the last one keeps all times
 pub all_told : (from : ℕ) (first second third last : CountTable) → TellsSame from first second → TellsSame from second third → TellsSame 0 third last
     → TellsSame from first last

@@ -1,5 +1,5 @@
 -- Machinery for proofs: what is kept of the hits of each row and identity that were let through.
-use Rattle.std.specs.Prelude.{◌≡◌, ℕ, ◌+◌, ◌-◌, ◌≤◌, ◌^◌, min, Bool, true, false, nat_eq, nat_lt, List, Option, Some, None, IfSome, cond, slice_get, if◌then◌else◌}
+use Rattle.std.specs.Prelude.{◌≡◌, ℕ, ◌+◌, ◌-◌, ◌<◌, ◌≤◌, ◌^◌, min, Bool, true, false, nat_eq, nat_lt, List, Option, Some, None, All, IfSome, cond, length, slice_get, take, if◌then◌else◌}
 use Rattle.std.specs.Cmp.Lexicographic.{pointwise}
 use Rattle.std.specs.Ordering.{eq_of_both, on}
 use Rattle.indexmap.specs.IndexMap.{get}
@@ -93,3 +93,19 @@ Sets old new key now = (other : CountKey) → kept new other ≡ cond (key_eq ke
 abbrev pub Counted : Bool → ℕ → Counts → ℕ → CountTable → CountTable → Type 0
 Counted true at counts time old new = (key : CountKey) → StandsAt old key at → Sets old new key (Some (counted counts time))
 Counted false at counts time old new = new ≡ old
+
+-- ---- memory that is given back
+
+-- the entries that the hand has passed in this round
+abbrev pub passed : CountTable → List (CountKey × Counts)
+passed table = take table.hand table.entries.entries
+
+-- how many it has still to pass
+abbrev pub to_pass : CountTable → ℕ
+to_pass table = length table.entries.entries - table.hand
+
+-- the hand passes one entry more, unless its windows are over: then the entry goes. At the end a round begins
+pub record GoesOn (time : ℕ) (old new : CountTable) : Type 0 where
+  pub live : All (λ entry. is_over entry.1 time ≡ false) (passed old) → All (λ entry. is_over entry.1 time ≡ false) (passed new)
+  pub fewer : 0 < to_pass old → to_pass new + 1 ≡ to_pass old
+  pub again : to_pass old ≡ 0 → new.hand ≡ 0

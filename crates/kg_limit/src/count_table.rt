@@ -1,8 +1,8 @@
 //! How many hits were let through, of each row and identity.
 
-ghost use Rattle.std.specs.Prelude.{◌≡◌, ◌<◌, IfNone, IfOk, IfSome, None, Some};
+ghost use Rattle.std.specs.Prelude.{◌≡◌, ◌<◌, IfNone, IfOk, IfSome, None, Some, slice_get};
 ghost use Rattle.indexmap.specs.IndexMap.{index_map_len};
-ghost use Rattle.kg_limit.specs.Counting.{Sets, StandsAt, TellsSame, kept, key_of};
+ghost use Rattle.kg_limit.specs.Counting.{GoesOn, Sets, StandsAt, TellsSame, kept, key_of};
 ghost use Rattle.kg_limit.specs.declared.count_table.CountKey.{CountKey as AKey};
 
 use crate::counts::Counts;
@@ -82,7 +82,8 @@ impl CountTable {
     /// What is kept at an index.
     pub(crate) fn at(&self, index: usize) -> Counts
         requires { index < index_map_len self.now.entries }
-        ensures { (key : AKey) → StandsAt self.now key index → kept self.now key ≡ Some result }
+        ensures entry { (key : AKey) × (slice_get self.now.entries.entries index ≡ Some (key, result)) }
+        ensures kept { (key : AKey) → StandsAt self.now key index → kept self.now key ≡ Some result }
     {
         let Some((_, counts)) = self.entries.get_index(index) else {
             unreachable!()
@@ -100,15 +101,29 @@ impl CountTable {
     }
 
     /// Looks at one entry, each in its turn, and gives its memory back where all its windows are over by this time.
+    /// A round, in which it looks at each, takes as many calls as there are entries when it begins and come in it.
     pub(crate) fn give_back(&mut self, time: u64)
-        ensures { TellsSame time self.old self.new }
+        ensures same { TellsSame time self.old self.new }
+        ensures gives { GoesOn time self.old self.new }
     {
         if self.hand >= self.entries.len() {
             self.hand = 0;
         } else if self.at(self.hand).is_over(time) {
             self.entries.swap_remove_index(self.hand);
+            self.give_room_back();
         } else {
             self.hand += 1;
+        }
+    }
+
+    // Gives back room of which less than an eighth is used, and keeps room for as many entries again.
+    fn give_room_back(&mut self)
+        ensures entries { self.new.entries.entries ≡ self.old.entries.entries }
+        ensures hand { self.new.hand ≡ self.old.hand }
+    {
+        let count = self.entries.len();
+        if count < self.entries.capacity() / 8 {
+            self.entries.shrink_to(count * 2);
         }
     }
 }

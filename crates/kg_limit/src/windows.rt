@@ -27,7 +27,12 @@ pub(crate) struct Room {
     pub(crate) left: Vec<(Window, u64)>,
 }
 
-/// The hits so far, as numbers: how many of each row and identity were let through in each window.
+/// The hits so far, as numbers: how many of each row and identity were let through in each window. Contracts say of
+/// which list of hits they are, by `Represents`.
+///
+/// For each row and identity there is one entry, of the windows in which its last hit lies. Once its day is over it
+/// gives its memory back when its turn comes: each `reserve` looks at two entries, so each comes to its turn again
+/// after at most as many hits as there are entries, and no hit pays for all.
 #[derive(Drop)]
 pub struct Windows {
     table: CountTable,
