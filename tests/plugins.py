@@ -1,5 +1,5 @@
 #!/usr/bin/env python3
-"""Runs `kong_node dry` over the cases of tests/plugins.txt, and compares each reply byte by byte.
+"""Runs `kong_node dry` over the cases of tests/plugins.txt, and compares their replies byte by byte.
 
 usage: tests/plugins.py
 Of each case that is answered otherwise it prints the title, what was wanted and what was had.
@@ -24,32 +24,27 @@ ROWS = {
     ],
     "consumers": [{"username": "c"}],
 }
-# what follows a status in a reply's first line (RFC 9110, section 15; RFC 2324 for 418)
+# what follows a status in a reply's first line (RFC 9110, section 15; RFC 2324 for 418, RFC 6585 for 429)
 PHRASES = {
     200: "OK", 204: "No Content", 304: "Not Modified", 400: "Bad Request", 401: "Unauthorized", 403: "Forbidden",
     404: "Not Found", 405: "Method Not Allowed", 410: "Gone", 413: "Payload Too Large", 418: "I'm a teapot",
-    500: "Internal Server Error", 502: "Bad Gateway", 503: "Service Unavailable", 599: "",
+    429: "Too Many Requests", 500: "Internal Server Error", 502: "Bad Gateway", 503: "Service Unavailable", 599: "",
 }  # fmt: skip
 
 
-class Case:
-    """A title, plugin rows, a request, and what it is answered."""
+class Exchange:
+    """A request, and what it is answered."""
 
-    def __init__(self, title):
-        self.title = title
-        self.plugins = []
+    def __init__(self):
         self.request = []
         self.sent = None
         self.reply = []
         self.body = ""
         self.upstream = []
 
-    def take(self, line):
-        """Takes one line of the case behind its title."""
-        word, _, rest = line.partition(" ")
-        if word == "plugin":
-            self.plugins.append(json.loads(rest))
-        elif word == ">":
+    def take(self, word, rest):
+        """Takes one line, by its first word; false where none begins so."""
+        if word == ">":
             self.request.append(rest)
         elif word == ">=":
             self.sent = rest
@@ -61,15 +56,14 @@ class Case:
             self.body = rest
         elif word == "up":
             self.upstream.append(rest)
-        elif word != "<-":
-            raise ValueError(f"{self.title}: {line}")
+        return word in (">", ">=", ">*", "<", "<=", "<-", "up")
 
     def given(self):
-        """What the program reads: the declaration and the request."""
+        """The request as bytes are read."""
         lines = [f"{self.request[0]} HTTP/1.1", "Host: x", *self.request[1:]]
         if self.sent is not None:
             lines.append(f"Content-Length: {len(self.sent.encode())}")
-        return json.dumps({**ROWS, "plugins": self.plugins}) + "\n" + message(lines, self.sent or "")
+        return message(lines, self.sent or "")
 
     def upstream_message(self):
         """The request as it goes upstream."""
@@ -96,6 +90,40 @@ class Case:
         return message([*lines, f"content-length: {len(body.encode())}"], body)
 
 
+class Case:
+    """A title, rows, and requests with what they are answered."""
+
+    def __init__(self, title):
+        self.title = title
+        self.consumers = [*ROWS["consumers"]]
+        self.plugins = []
+        self.exchanges = []
+
+    def take(self, line):
+        """Takes one line of the case behind its title."""
+        word, _, rest = line.partition(" ")
+        if word == "consumer":
+            self.consumers.append(json.loads(rest))
+            return
+        if word == "plugin":
+            self.plugins.append(json.loads(rest))
+            return
+        # a line of a request behind a reply begins the next request
+        if word == ">" and (not self.exchanges or self.exchanges[-1].reply):
+            self.exchanges.append(Exchange())
+        if not self.exchanges or not self.exchanges[-1].take(word, rest):
+            raise ValueError(f"{self.title}: {line}")
+
+    def given(self):
+        """What the program reads: the declaration and the requests."""
+        rows = {**ROWS, "consumers": self.consumers, "plugins": self.plugins}
+        return json.dumps(rows) + "\n" + "".join(exchange.given() for exchange in self.exchanges)
+
+    def wanted(self):
+        """The replies as bytes are written."""
+        return "".join(exchange.wanted() for exchange in self.exchanges)
+
+
 def message(lines, body):
     return "\r\n".join(lines) + "\r\n\r\n" + body
 
@@ -103,6 +131,7 @@ def message(lines, body):
 def cases(text):
     """The cases of the table: blocks of lines, with the first as the title."""
     text = re.sub(r"<(\w)\*(\d+)>", lambda many: many[1] * int(many[2]), text)
+    text = re.sub(r"ID\((\d+)\)", lambda id: f"00000000-0000-4000-8000-{int(id[1]):012x}", text)
     for block in text.split("\n\n"):
         lines = [line for line in block.splitlines() if not line.startswith("#")]
         if lines:
