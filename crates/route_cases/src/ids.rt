@@ -1,6 +1,7 @@
 //! Ids, and the names of plugins.
 
 use case_lines::{Args, put, put_unknown};
+use kg_password::hash_of;
 use kg_row_types::id::Id;
 use kg_row_types::plugin::PluginName;
 use kg_text::NoMemory;
@@ -19,6 +20,7 @@ pub fn put_id_answer(
         "drawn" => put_id(alloc, out, drawn(args.text(0))),
         "number" => put_number(out, Id::parse(args.at(0))),
         "order" => put(out, order_of(Id::parse(args.at(0)), Id::parse(args.at(1)))),
+        "hash" => put_hash(alloc, out, Id::parse(args.at(0)), args.at(1)),
         "plugin" => put_plugin(out, args.text(0)),
         _ => put_unknown(out),
     }
@@ -48,6 +50,22 @@ fn put_number(out: &mut String, id: Option<Id>) -> Result<(), NoMemory> {
         Some(id) => {
             write!(out, "{}", id.number())?;
             Ok(())
+        }
+        None => put(out, "none"),
+    }
+}
+
+// Adds what is stored of a password of the consumer with this id.
+fn put_hash(
+    alloc: Global,
+    out: &mut String,
+    consumer: Option<Id>,
+    password: &[u8],
+) -> Result<(), NoMemory> {
+    match consumer {
+        Some(consumer) => {
+            let hash = hash_of(alloc, consumer, password)?;
+            put(out, hash.as_str())
         }
         None => put(out, "none"),
     }

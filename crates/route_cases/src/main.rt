@@ -5,6 +5,7 @@
 //! | Line | Prints |
 //! |---|---|
 //! | `id parse TEXT`, `id printed TEXT`, `id drawn BYTE`, `id number TEXT`, `id order TEXT TEXT`, `id plugin NAME` | what the calls of `kg_row_types` give for ids, and for the names of plugins |
+//! | `id hash TEXT PASSWORD` | what is stored of this password of the consumer with this id |
 //! | `copy key NAME`, `copy generation`, `copy groups GROUPS` | whether a copy equals what it is a copy of; no groups are no value |
 //! | `route fits METHODS HOSTS HEADERS PATHS HOST FIELDS PATH` | how many bytes of the path such a route takes of a GET with this host, these fields and this path |
 //! | `route order SHAPE SHAPE` | whether the first of two routes comes before or after the second |
