@@ -1,1 +1,2 @@
 mod GiveLemmas
+mod TraceLemmas

@@ -1,29 +1,35 @@
 //! One request of the gateway, as it is answered.
 
-ghost use Rattle.std.specs.Prelude.{◌≡◌, false, IfOk, IsTrue, OnOk};
+ghost use Rattle.std.specs.Prelude.{◌≡◌, false, [], ◌∷◌, ◌++◌, None, IfOk, IsTrue, OnOk, option_map};
 ghost use Rattle.std.specs.Arc.{arc_value};
+ghost use Rattle.kg_context.specs.Echo.{echo_of};
+ghost use Rattle.kg_context.specs.Given.{value_in};
 ghost use Rattle.kg_context.specs.declared.upstream.UpRequest.{UpRequest as AMessage};
+ghost use Rattle.kg_context.specs.declared.upstream.Upstream.TheVariants.{Answered};
+ghost use Rattle.kg_limit.specs.declared.hit.Hit.{Hit as AHit};
 ghost use Rattle.kg_row_types.specs.Values.{answers_key};
+ghost use Rattle.kg_row_types.specs.declared.key.Key.{Key as AKey};
 ghost use Rattle.kg_router.specs.Best.{best_choice};
-ghost use Rattle.kg_course.specs.Plain.{no_route};
+ghost use Rattle.kg_upstream.specs.UpstreamMessage.{way_of};
 ghost use Rattle.kg_course.specs.Wants.{IsReply, is_reply};
-ghost use Rattle.kg_visit.specs.Told.{IsAsked, begun, want_after, with_upstream, with_use};
-ghost use Rattle.kg_course.specs.Walks.{AreBuilt};
-ghost use Rattle.kg_visit.specs.Visits.{BeginsStage, NextWant};
 ghost use Rattle.kg_course.specs.declared.want.Want.TheVariants as AWant;
+ghost use Rattle.kg_visit.specs.Told.{IsAsked, answer_of, begun, want_after, with_upstream, with_use, with_verdict};
 
+use crate::next::{echo_at, first_want, renew_want, reply_at, stage_of};
 use crate::stage::Stage;
 use crate::used::Used;
 use kg_context::{Given, Upstream};
-use kg_course::{Moment, Walk, Want, wanted_on_route};
+use kg_course::{Moment, Want};
 use kg_limit::Verdict;
-use kg_message::{Request, Response, message};
+use kg_message::{Request, Response};
 use kg_plugin_table::PluginGen;
 use kg_router::RouterGen;
-use kg_text::{List, NoMemory, TryClone};
-use kg_upstream::way_to;
+use kg_row_types::key::Key;
+use kg_text::{List, NoMemory, Text};
+use kg_upstream::{Way, way_to};
 use std::alloc::Global;
 use std::marker::Model;
+use std::mem;
 use std::sync::Arc;
 
 /// One request. Contracts see what it was told; what it wants is what the plain gateway lacks then.
@@ -47,21 +53,28 @@ pub struct Visit {
 impl Model for Visit {
     ghost use Rattle.std.specs.Arc.{arc_value};
     ghost use Rattle.kg_visit.specs.Told.{Told};
-    ghost use Rattle.kg_course.specs.Walks.{AreBuilt};
     ghost use Rattle.kg_visit.specs.Visits.{IsUnderWay, told_of};
 
     ghost Value = { Told };
 
     ghost view = { λ v. told_of (arc_value v.router) (arc_value v.plugins) v.stage v.moment v.uses v.verdicts v.upstream v.lost };
 
-    ghost invariant = { λ v. AreBuilt (arc_value v.plugins).rows
-        × IsUnderWay (told_of (arc_value v.router) (arc_value v.plugins) v.stage v.moment v.uses v.verdicts v.upstream v.lost) v.stage v.given v.want };
+    ghost invariant = { λ v. IsUnderWay (told_of (arc_value v.router) (arc_value v.plugins) v.stage v.moment v.uses v.verdicts v.upstream v.lost) v.stage v.given v.want };
 }
 
 /// What a request has come to.
 #[derive(Drop)]
 pub struct Visited {
     pub response: Response,
+    /// The keys that were asked, in the order asked, with their values.
+    pub uses: List<Used>,
+    pub verdicts: List<Verdict>,
+    pub upstream: Option<Upstream>,
+}
+
+/// What a request was told that got no reply.
+#[derive(Drop)]
+pub struct GivenUp {
     /// The keys that were asked, in the order asked, with their values.
     pub uses: List<Used>,
     pub verdicts: List<Verdict>,
@@ -79,26 +92,42 @@ impl Visit {
         now: u64,
         who: u32,
     ) -> Result<Visit, NoMemory>
-        requires built { AreBuilt (arc_value plugins).rows }
+        ensures { IfOk result (λ visit. visit ≡ begun (arc_value router) (arc_value plugins) request (record { time = now; who = who })) }
+    {
+        match way_to(alloc, &router, &request) {
+            Ok(way) => Visit::begin_on(alloc, router, plugins, way, request, now, who),
+            Err(e) => {
+                drop((router, plugins, request)); // let go by name: a short proof
+                Err(e)
+            }
+        }
+    }
+
+    /// The same, where the router was asked already: the way is that of the best route that takes the request.
+    pub fn begin_on(
+        alloc: Global,
+        router: Arc<RouterGen>,
+        plugins: Arc<PluginGen>,
+        way: Option<Way>,
+        request: Request,
+        now: u64,
+        who: u32,
+    ) -> Result<Visit, NoMemory>
+        requires best { way ≡ option_map (λ choice. way_of choice request) (best_choice (arc_value router).services (arc_value router).routes request) }
         ensures { IfOk result (λ visit. visit ≡ begun (arc_value router) (arc_value plugins) request (record { time = now; who = who })) }
     {
         let moment = Moment { time: now, who };
-        let given = Given::new(alloc);
-        let verdicts = List::new(alloc);
-        let upstream = None;
-        let mut stage = stage_of(alloc, &router, request)?;
-        let want = next_want(
-            alloc, &plugins, moment, &given, &verdicts, &upstream, &mut stage,
-        )?;
+        let mut stage = stage_of(alloc, way, request)?;
+        let want = first_want(alloc, &plugins, moment, &mut stage)?;
         Ok(Visit {
             router,
             plugins,
             moment,
             stage,
-            given,
+            given: Given::new(alloc),
             uses: List::new(alloc),
-            verdicts,
-            upstream,
+            verdicts: List::new(alloc),
+            upstream: None,
             want,
             lost: false,
         })
@@ -131,17 +160,37 @@ impl Visit {
         ensures { OnOk result (self.new ≡ with_use used self.old) }
     {
         self.lost = true;
-        let key = used.key.try_clone(alloc)?;
-        self.given.add(alloc, key, Arc::try_clone(&used.value)?)?;
-        self.uses.push(used)?;
-        self.want = next_want(
+        let key = take_key(alloc, &mut self.want);
+        keep(alloc, key, used, &mut self.given, &mut self.uses)?;
+        renew_want(
             alloc,
             &self.plugins,
             self.moment,
             &self.given,
             &self.verdicts,
-            &self.upstream,
             &mut self.stage,
+            &mut self.want,
+        )?;
+        self.lost = false;
+        Ok(())
+    }
+
+    /// Tells it the verdict on the hit that it wants counted.
+    pub fn give_verdict(&mut self, alloc: Global, verdict: Verdict) -> Result<(), NoMemory>
+        requires whole { self.old.lost ≡ false }
+        requires wanted { (hit : AHit) × (want_after self.old ≡ AWant.Count hit) }
+        ensures { OnOk result (self.new ≡ with_verdict verdict self.old) }
+    {
+        self.lost = true;
+        self.verdicts.push(verdict)?;
+        renew_want(
+            alloc,
+            &self.plugins,
+            self.moment,
+            &self.given,
+            &self.verdicts,
+            &mut self.stage,
+            &mut self.want,
         )?;
         self.lost = false;
         Ok(())
@@ -154,16 +203,10 @@ impl Visit {
         ensures { OnOk result (self.new ≡ with_upstream upstream self.old) }
     {
         self.lost = true;
-        self.upstream = Some(upstream);
-        self.want = next_want(
-            alloc,
-            &self.plugins,
-            self.moment,
-            &self.given,
-            &self.verdicts,
-            &self.upstream,
-            &mut self.stage,
-        )?;
+        let reply = reply_at(alloc, &self.plugins, &self.verdicts, &self.stage, &upstream);
+        // let go by name: a short proof
+        drop(self.upstream.replace(upstream));
+        drop(mem::replace(&mut self.want, Want::Done(reply?)));
         self.lost = false;
         Ok(())
     }
@@ -203,42 +246,97 @@ impl Visit {
             Want::Upstream(_) => unreachable!(),
         }
     }
-}
 
-// A request at its route, before the first plugin, or one that no route takes.
-fn stage_of(alloc: Global, router: &RouterGen, request: Request) -> Result<Stage, NoMemory>
-    ensures { IfOk result (λ stage. BeginsStage (best_choice router.now.services router.now.routes request) request stage) }
-{
-    match way_to(alloc, router, &request)? {
-        Some(way) => Ok(Stage::OnRoute(Walk::begin(alloc, way, request)?)),
-        None => Ok(Stage::NoRoute(request)),
+    /// The reply with the echo as the upstream, where it wants an upstream's answer. The message becomes the
+    /// echo's body without a copy, and nothing is kept of what it was told.
+    pub fn finish_by_echo(self, alloc: Global) -> Result<Response, NoMemory>
+        requires whole { self.lost ≡ false }
+        requires wanted { (message : AMessage) × (want_after self ≡ AWant.Upstream message) }
+        ensures { IfOk result (λ reply. (message : AMessage) → want_after self ≡ AWant.Upstream message
+            → want_after (with_upstream (Answered (echo_of message.bytes)) self) ≡ AWant.Done reply) }
+    {
+        let Visit {
+            router,
+            plugins,
+            stage,
+            given,
+            uses,
+            verdicts,
+            upstream,
+            want,
+            ..
+        } = self;
+        // let go by name: a short proof
+        drop((router, given, uses, upstream));
+        match want {
+            Want::Upstream(message) => {
+                let reply = echo_at(alloc, &plugins, &verdicts, &stage, message.bytes);
+                drop((plugins, stage, verdicts));
+                reply
+            }
+            Want::Entity(_) => unreachable!(),
+            Want::Count(_) => unreachable!(),
+            Want::Done(_) => unreachable!(),
+        }
+    }
+
+    /// What it was told, where it is to get no reply of its own.
+    pub fn give_up(self) -> GivenUp
+        requires whole { self.lost ≡ false }
+        ensures uses { result.uses ≡ self.uses }
+        ensures verdicts { result.verdicts ≡ self.verdicts }
+        ensures upstream { result.upstream ≡ self.upstream }
+        ensures in_order { IsAsked self.asked result.uses result.verdicts result.upstream }
+    {
+        let Visit {
+            router,
+            plugins,
+            stage,
+            given,
+            uses,
+            verdicts,
+            upstream,
+            want,
+            ..
+        } = self;
+        // let go by name: a short proof
+        drop((router, plugins, stage, given));
+        drop(want);
+        GivenUp {
+            uses,
+            verdicts,
+            upstream,
+        }
     }
 }
 
-#[tactic(auto, unfolding(kg_course::specs::Plain::no_route))]
-fn no_route(alloc: Global) -> Result<Response, NoMemory>
-    ensures { IfOk result (λ response. response ≡ no_route) }
+// Takes out the key that is wanted, before the want is written anew.
+fn take_key(alloc: Global, want: &mut Want) -> Key
+    requires { (key : AKey) × (want.old ≡ AWant.Entity key) }
+    ensures { want.old ≡ AWant.Entity result }
 {
-    message(alloc, 404, b"no Route matched with those values")
+    match want {
+        Want::Entity(key) => mem::replace(key, Key::Cred(Text::new(alloc))),
+        Want::Count(_) => unreachable!(),
+        Want::Upstream(_) => unreachable!(),
+        Want::Done(_) => unreachable!(),
+    }
 }
 
-// What a request wants next.
-fn next_want(
+// Keeps the value of a key, for the plugins and for the trace.
+fn keep(
     alloc: Global,
-    plugins: &PluginGen,
-    moment: Moment,
-    given: &Given,
-    verdicts: &List<Verdict>,
-    upstream: &Option<Upstream>,
-    stage: &mut Stage,
-) -> Result<Want, NoMemory>
-    requires built { AreBuilt plugins.now.rows }
-    ensures { IfOk result (λ want. NextWant plugins.now.rows moment given.now verdicts.now upstream.now stage.old want stage.new) }
+    key: Key,
+    used: Used,
+    given: &mut Given,
+    uses: &mut List<Used>,
+) -> Result<(), NoMemory>
+    requires same { key ≡ used.key }
+    requires new { value_in given.old used.key ≡ None }
+    requires fits { IsTrue (answers_key used.key used.value) }
+    ensures given { OnOk result (given.new ≡ given.old ++ answer_of used ∷ []) }
+    ensures uses { OnOk result (uses.new ≡ uses.old ++ used ∷ []) }
 {
-    match stage {
-        Stage::OnRoute(walk) => wanted_on_route(
-            alloc, plugins, moment, given, verdicts, upstream, walk,
-        ),
-        Stage::NoRoute(_) => Ok(Want::Done(no_route(alloc)?)),
-    }
+    given.add(alloc, key, Arc::try_clone(&used.value)?)?;
+    uses.push(used)
 }
