@@ -2,3 +2,4 @@ mod ChoiceLemmas
 mod ClosestLemmas
 mod KeyLemmas
 mod PlaceLemmas
+mod RankLemmas

@@ -3,3 +3,4 @@ pub mod Keys
 pub mod Names
 pub mod PluginRows
 pub mod Precedence
+pub mod Ranks

@@ -8,7 +8,8 @@ ghost use Rattle.kg_plugin_table.specs.Precedence.{chosen_row, row_with};
 
 use crate::names::RowNames;
 use crate::places::RowPlaces;
-use crate::precedence::{PRECEDENCE, Parts, scope_with};
+use crate::precedence::{PRECEDENCE, Parts, rank_of, scope_with};
+use crate::ranks::RowRanks;
 use kg_row_types::plugin::{PluginName, PluginRow, Scope};
 use kg_text::{List, NoMemory, TryClone};
 use std::alloc::Global;
@@ -21,6 +22,7 @@ pub struct PluginGen {
     rev: u64,
     rows: List<PluginRow>,
     names: RowNames,
+    ranks: RowRanks,
     places: RowPlaces,
 }
 
@@ -29,13 +31,14 @@ impl Model for PluginGen {
     ghost use Rattle.kg_row_types.specs.ValidRows.{IsValidPlugin};
     ghost use Rattle.kg_plugin_table.specs.Keys.{ArePlaces};
     ghost use Rattle.kg_plugin_table.specs.Names.{AreNames};
+    ghost use Rattle.kg_plugin_table.specs.Ranks.{AreRanks};
     ghost use Rattle.kg_plugin_table.specs.PluginRows.{PluginRows};
 
     ghost Value = { PluginRows };
 
     ghost view = { λ gen. record { rev = gen.rev; rows = gen.rows } };
 
-    ghost invariant = { λ gen. All IsValidPlugin gen.rows × AreNames gen.rows gen.names × ArePlaces gen.rows gen.places };
+    ghost invariant = { λ gen. All IsValidPlugin gen.rows × AreNames gen.rows gen.names × ArePlaces gen.rows gen.places × AreRanks gen.rows gen.ranks };
 }
 
 impl PluginGen {
@@ -46,18 +49,20 @@ impl PluginGen {
     {
         let rows = rows.try_clone(alloc)?;
         let names = RowNames::of(alloc, rows.as_slice())?;
+        let ranks = RowRanks::of(alloc, rows.as_slice())?;
         let places = RowPlaces::of(alloc, rows.as_slice())?;
         Ok(PluginGen {
             rev,
             rows,
             names,
+            ranks,
             places,
         })
     }
 
     /// The row of this plugin that runs for a request of this scope: of the enabled rows whose set parts are all
-    /// the request's own, the one that is tied most closely to it. It takes no memory. At most eight scopes are
-    /// looked up, whatever the number of rows, and none where the plugin has no enabled row.
+    /// the request's own, the one that is tied most closely to it. It takes no memory. Only scopes are
+    /// looked up that set the parts of some enabled row of the plugin: at most eight, whatever the number of rows.
     pub fn choose(&self, name: PluginName, scope: &Scope) -> Option<&PluginRow>
         ensures chosen { option_copied result ≡ chosen_row self.now.rows name scope.now }
         ensures valid { IfSome (option_copied result) IsValidPlugin }
@@ -78,6 +83,9 @@ impl PluginGen {
     fn row_with(&self, name: PluginName, scope: &Scope, parts: Parts) -> Option<&PluginRow>
         ensures { option_copied result ≡ row_with self.now.rows name scope.now (rank_of parts) }
     {
+        if !self.ranks.has(name, rank_of(parts)) {
+            return None;
+        }
         let exact = scope_with(parts, scope)?;
         self.row_of(name, &exact)
     }

@@ -6,6 +6,7 @@ mod generation;
 mod names;
 mod places;
 mod precedence;
+mod ranks;
 mod search;
 
 pub use crate::closest::chosen_row_is_the_closest;

@@ -1,7 +1,8 @@
 //! The precedence of plugin rows, by their scopes (Kong Gateway manual, "Plugin precedence").
 
 ghost use Rattle.std.specs.Prelude.{◌≡◌};
-ghost use Rattle.kg_plugin_table.specs.Keys.{kept_part, scope_with};
+ghost use Rattle.kg_plugin_table.specs.Keys.{kept_part, rank_of, scope_with};
+ghost use Rattle.kg_plugin_table.specs.Ranks.{rank_of_scope};
 ghost use Rattle.kg_plugin_table.specs.Precedence.{part_fits, precedence_of, rank, scope_fits};
 
 use kg_row_types::id::Id;
@@ -107,11 +108,25 @@ pub fn precedence_of(scope: &Scope, request: &Scope) -> Option<u32>
     if !scope_fits(scope, request) {
         return None;
     }
-    Some(rank(
+    Some(rank_of_scope(scope))
+}
+
+/// The precedence by which parts a scope sets.
+pub fn rank_of_scope(scope: &Scope) -> u32
+    ensures { result ≡ rank_of_scope scope.now }
+{
+    rank(
         scope.consumer.is_some(),
         scope.route.is_some(),
         scope.service.is_some(),
-    ))
+    )
+}
+
+/// The precedence of the scopes that set just these parts.
+pub fn rank_of(parts: Parts) -> u32
+    ensures { result ≡ rank_of parts }
+{
+    rank(parts.consumer, parts.route, parts.service)
 }
 
 fn rank(consumer: bool, route: bool, service: bool) -> u32
