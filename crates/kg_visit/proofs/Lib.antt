@@ -1,2 +1,3 @@
 mod GiveLemmas
+mod OnceLemmas
 mod TraceLemmas

@@ -10,7 +10,9 @@ mod trace;
 mod used;
 mod visit;
 
-pub use crate::laws::{what_was_asked_justifies_the_refusal, what_was_asked_justifies_the_reply};
+pub use crate::laws::{
+    no_key_is_asked_twice, what_was_asked_justifies_the_refusal, what_was_asked_justifies_the_reply,
+};
 pub use crate::trace::{ReplyKind, Trace};
 pub use crate::used::Used;
 pub use crate::visit::{GivenUp, Visit, Visited};
