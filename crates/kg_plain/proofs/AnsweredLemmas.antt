@@ -15,26 +15,44 @@ use Rattle.kg_wire.proofs.RefusalLemmas.{bad_stays}
 use Rattle.kg_wire.specs.declared.reader.ReadError.TheVariants.{Bad as BadMessage, Cut as CutMessage}
 use Rattle.kg_plain.specs.Answered.{Answered, AnsweredOn, AnswersAll, AnswersFront, EndsAhead}
 use Rattle.kg_plain.specs.AnsweringSteps.{AnswersNext, EndsAt, IsReplied, Replied, RepliedFront, StopsNext, asked_end}
-use Rattle.kg_plain.specs.DryReply.{GatewayRows, bad_request_text, reply_to}
+use Rattle.kg_limit.specs.declared.hit.Hit.{Hit}
+use Rattle.kg_plain.specs.DryReply.{GatewayRows, bad_request_text, counted, reply_to}
 use Rattle.kg_plain.specs.Fronts.{IsFront}
-use Rattle.kg_plain.specs.Replies.{BeginsReply, StopsIn, asks, local_address, most_requests, texts}
+use Rattle.kg_plain.specs.Replies.{BeginsReply, StopsIn, asks, hits_of, local_address, most_requests, texts}
 use Rattle.kg_plain.specs.declared.answers.End.{End}
 use Rattle.kg_plain.specs.declared.answers.End.TheVariants.{Closed, Asked, Spent, Bad, Cut}
 
 -- one more reply at the end
-pub texts-push : (rows : GatewayRows) (answered n : ℕ) (times : List ℕ) (ms : List Message) (time : ℕ) (m : Message) → n ≡ answered + length ms
+pub texts-push : (rows : GatewayRows) (hits : List Hit) (answered n : ℕ) (times : List ℕ) (ms : List Message) (time : ℕ) (m : Message) → n ≡ answered + length ms
     → length times ≡ length ms
-    → texts rows answered (times ++ time ∷ []) (ms ++ m ∷ []) ≡ texts rows answered times ms ++ reply_to rows time (n + 1 == most_requests) (request_of local_address m)
-texts-push rows answered n [] [] time m is each =
+    → texts rows hits answered (times ++ time ∷ []) (ms ++ m ∷ [])
+    ≡ texts rows hits answered times ms ++ reply_to rows (hits ++ hits_of rows times ms) time (n + 1 == most_requests) (request_of local_address m)
+texts-push rows hits answered n [] [] time m is each =
     let e : answered ≡ n = omega arith in
-    append-nil (reply_to rows time (answered + 1 == most_requests) (request_of local_address m))
-    ∙ ap (λ k. reply_to rows time (k + 1 == most_requests) (request_of local_address m)) e
-texts-push rows answered n [] (x ∷ ms) time m is each = absurd (omega arith)
-texts-push rows answered n (t ∷ times) [] time m is each = absurd (omega arith)
-texts-push rows answered n (t ∷ times) (x ∷ ms) time m is each =
-    let first = reply_to rows t (answered + 1 == most_requests) (request_of local_address x) in
-    ap (λ t. first ++ t) (texts-push rows (answered + 1) n times ms time m (omega arith) (omega arith))
-    ∙ sym (append_assoc first (texts rows (answered + 1) times ms) (reply_to rows time (n + 1 == most_requests) (request_of local_address m)))
+    append-nil (reply_to rows hits time (answered + 1 == most_requests) (request_of local_address m))
+    ∙ ap (λ k. reply_to rows hits time (k + 1 == most_requests) (request_of local_address m)) e
+    ∙ ap (λ past. reply_to rows past time (n + 1 == most_requests) (request_of local_address m)) (sym (append-nil hits))
+texts-push rows hits answered n [] (x ∷ ms) time m is each = absurd (omega arith)
+texts-push rows hits answered n (t ∷ times) [] time m is each = absurd (omega arith)
+texts-push rows hits answered n (t ∷ times) (x ∷ ms) time m is each =
+    let first = reply_to rows hits t (answered + 1 == most_requests) (request_of local_address x) in
+    let own = counted rows t (request_of local_address x) in
+    let later = texts rows (hits ++ own) (answered + 1) times ms in
+    ap (λ t. first ++ t)
+    (texts-push rows (hits ++ own) (answered + 1) n times ms time m (omega arith) (omega arith)
+    ∙ ap (λ past. later ++ reply_to rows past time (n + 1 == most_requests) (request_of local_address m)) (append_assoc hits own (hits_of rows times ms)))
+    ∙ sym (append_assoc first later (reply_to rows (hits ++ (own ++ hits_of rows times ms)) time (n + 1 == most_requests) (request_of local_address m)))
+
+-- and its hits behind those before
+pub hits-push : (rows : GatewayRows) (times : List ℕ) (ms : List Message) (time : ℕ) (m : Message) → length times ≡ length ms
+    → hits_of rows (times ++ time ∷ []) (ms ++ m ∷ []) ≡ hits_of rows times ms ++ counted rows time (request_of local_address m)
+hits-push rows [] [] time m each = append-nil (counted rows time (request_of local_address m))
+hits-push rows [] (x ∷ ms) time m each = absurd (omega arith)
+hits-push rows (t ∷ times) [] time m each = absurd (omega arith)
+hits-push rows (t ∷ times) (x ∷ ms) time m each =
+    let own = counted rows t (request_of local_address x) in
+    ap (λ hits. own ++ hits) (hits-push rows times ms time m (omega arith))
+    ∙ sym (append_assoc own (hits_of rows times ms) (counted rows time (request_of local_address m)))
 
 -- what holds of each member holds of one more
 pub each-push : {X : Type 0} (P : X → Type 0) (xs : List X) (x : X) → AllByRecursion P xs → P x → AllByRecursion P (xs ++ x ∷ [])
@@ -42,9 +60,9 @@ each-push P [] x all here = (here, tt)
 each-push P (y ∷ ys) x all here = (all.0, each-push P ys x all.1 here)
 
 -- no request was answered yet
-pub none_answered : (rows : GatewayRows) (Read : List ℕ → Type 0) (ahead_before ahead_now written : Option (List ℕ)) (at : ℕ)
-    → Read [] → ahead_before ≡ ahead_now → at ≡ 0 → AnsweredOn rows Read ahead_before ahead_now written written 0 at
-none_answered rows Read ahead_before ahead_now written at read same start = record {
+pub none_answered : (rows : GatewayRows) (Read : List ℕ → Type 0) (Counts : List Hit → Type 0) (ahead_before ahead_now written : Option (List ℕ)) (at : ℕ)
+    → Read [] → Counts [] → ahead_before ≡ ahead_now → at ≡ 0 → AnsweredOn rows Read Counts ahead_before ahead_now written written 0 at
+none_answered rows Read Counts ahead_before ahead_now written at read counts same start = record {
   messages = [];
   counted = refl;
   at_is = start;
@@ -57,6 +75,7 @@ none_answered rows Read ahead_before ahead_now written at read same start = reco
     whole = same ∙ sym (with_front-nil ahead_now);
     written = sym (with_end-nil written);
   };
+  counts = counts;
 }
 
 -- one request more was read, in front of what is ahead now
@@ -100,19 +119,19 @@ taken_means : (before now : ReaderState) (left later : Option (List ℕ)) (reque
 taken_means before now left later request t here = t.means ∙ ap (λ address. request_of address t.message) here
 
 -- it got its reply, and the connection goes on, or ends where it asks for that
-taken_replied : (rows : GatewayRows) (Read : List ℕ → Type 0) (answered : ℕ) (before now : ReaderState) (left later w0 w1 : Option (List ℕ))
+taken_replied : (rows : GatewayRows) (hits : List Hit) (Read : List ℕ → Type 0) (Counts : List Hit → Type 0) (answered : ℕ) (before now : ReaderState) (left later w0 w1 : Option (List ℕ))
     (request : Request) (end : Option End)
     → before.address ≡ local_address → Takes before now left later request
-    → Replied rows (answered + 1 == most_requests) request Read w0 w1 → end ≡ asked_end (asks_for_end request)
-    → AnswersNext rows Read answered before.at now.at (with_front before.held left) (with_front now.held later) w0 w1 end
-taken_replied rows Read answered before now left later w0 w1 request end here t reply is =
+    → Replied rows hits (answered + 1 == most_requests) request Read Counts w0 w1 → end ≡ asked_end (asks_for_end request)
+    → AnswersNext rows hits Read Counts answered before.at now.at (with_front before.held left) (with_front now.held later) w0 w1 end
+taken_replied rows hits Read Counts answered before now left later w0 w1 request end here t reply is =
     by_asked (asks_for_end request) refl end is
   where
     means : request ≡ request_of local_address t.message
     means = taken_means before now left later request t here
 
     replied : (asked : Bool) → asks_for_end request ≡ asked
-        → IsReplied rows Read answered before.at now.at (with_front before.held left) (with_front now.held later) w0 w1 asked
+        → IsReplied rows hits Read Counts answered before.at now.at (with_front before.held left) (with_front now.held later) w0 w1 asked
     replied asked asking = record {
       message = t.message;
       time = reply.time;
@@ -121,16 +140,17 @@ taken_replied rows Read answered before now left later w0 w1 request end here t 
       read = reply.read;
       next = taken_next before now left later request t;
       at = t.at;
-      written = reply.written ∙ ap (λ q. with_end w0 (reply_to rows reply.time (answered + 1 == most_requests) q)) means;
+      written = reply.written ∙ ap (λ q. with_end w0 (reply_to rows hits reply.time (answered + 1 == most_requests) q)) means;
+      counts = subst (λ q. Counts (hits ++ counted rows reply.time q)) means reply.counts;
     }
 
     by_asked : (asked : Bool) → asks_for_end request ≡ asked → (end : Option End) → end ≡ asked_end (asks_for_end request)
-        → AnswersNext rows Read answered before.at now.at (with_front before.held left) (with_front now.held later) w0 w1 end
+        → AnswersNext rows hits Read Counts answered before.at now.at (with_front before.held left) (with_front now.held later) w0 w1 end
     by_asked true asking end is =
-        subst (AnswersNext rows Read answered before.at now.at (with_front before.held left) (with_front now.held later) w0 w1)
+        subst (AnswersNext rows hits Read Counts answered before.at now.at (with_front before.held left) (with_front now.held later) w0 w1)
         (sym (is ∙ ap asked_end asking)) (replied true asking)
     by_asked false asking end is =
-        subst (AnswersNext rows Read answered before.at now.at (with_front before.held left) (with_front now.held later) w0 w1)
+        subst (AnswersNext rows hits Read Counts answered before.at now.at (with_front before.held left) (with_front now.held later) w0 w1)
         (sym (is ∙ ap asked_end asking)) (replied false asking)
 
 -- what is observable ahead begins with the request that the reader took
@@ -145,12 +165,12 @@ taken_stands before now left later request t rest seen =
     by_cases (Some behind) e = (behind, cc)
 
 -- the reply to it was cut short
-taken_stopped : (rows : GatewayRows) (Read : List ℕ → Type 0) (answered : ℕ) (before now : ReaderState) (left later w0 w1 : Option (List ℕ))
+taken_stopped : (rows : GatewayRows) (hits : List Hit) (Read : List ℕ → Type 0) (answered : ℕ) (before now : ReaderState) (left later w0 w1 : Option (List ℕ))
     (request : Request)
     → before.address ≡ local_address → Takes before now left later request
-    → RepliedFront rows (answered + 1 == most_requests) request Read w0 w1
-    → StopsNext rows Read answered (with_front before.held left) w0 w1
-taken_stopped rows Read answered before now left later w0 w1 request here t reply = record {
+    → RepliedFront rows hits (answered + 1 == most_requests) request Read w0 w1
+    → StopsNext rows hits Read answered (with_front before.held left) w0 w1
+taken_stopped rows hits Read answered before now left later w0 w1 request here t reply = record {
   times = reply.time ∷ [];
   read = reply.read;
   part = reply.front;
@@ -158,51 +178,51 @@ taken_stopped rows Read answered before now left later w0 w1 request here t repl
   written = reply.written;
 }
   where
-    begun : (rest : List ℕ) → (behind : List ℕ) × (rest ≡ print_message t.message ++ behind) → BeginsReply rows reply.time answered rest reply.front
+    begun : (rest : List ℕ) → (behind : List ℕ) × (rest ≡ print_message t.message ++ behind) → BeginsReply rows hits reply.time answered rest reply.front
     begun rest (behind, stands) = record {
       next = t.message;
       behind = behind;
       is = t.is;
       stands = stands;
-      begins = subst (λ q. IsFront reply.front (reply_to rows reply.time (answered + 1 == most_requests) q)) (taken_means before now left later request t here) reply.begins;
+      begins = subst (λ q. IsFront reply.front (reply_to rows hits reply.time (answered + 1 == most_requests) q)) (taken_means before now left later request t here) reply.begins;
     }
 
 -- so it was answered, or its reply was cut short
-pub taken_ok : {E : Type 0} (result : Result (Option End) E) (rows : GatewayRows) (Read : List ℕ → Type 0) (answered : ℕ) (before now : ReaderState)
+pub taken_ok : {E : Type 0} (result : Result (Option End) E) (rows : GatewayRows) (hits : List Hit) (Read : List ℕ → Type 0) (Counts : List Hit → Type 0) (answered : ℕ) (before now : ReaderState)
     (left later w0 w1 : Option (List ℕ)) (request : Request)
     → before.address ≡ local_address → Takes before now left later request
-    → OnOk result (Replied rows (answered + 1 == most_requests) request Read w0 w1)
+    → OnOk result (Replied rows hits (answered + 1 == most_requests) request Read Counts w0 w1)
     → IfOk result (λ end. end ≡ asked_end (asks_for_end request))
-    → IfOk result (AnswersNext rows Read answered before.at now.at (with_front before.held left) (with_front now.held later) w0 w1)
-taken_ok (Ok end) rows Read answered before now left later w0 w1 request here t reply is =
-    taken_replied rows Read answered before now left later w0 w1 request end here t reply is
-taken_ok (Err e) rows Read answered before now left later w0 w1 request here t reply is = tt
+    → IfOk result (AnswersNext rows hits Read Counts answered before.at now.at (with_front before.held left) (with_front now.held later) w0 w1)
+taken_ok (Ok end) rows hits Read Counts answered before now left later w0 w1 request here t reply is =
+    taken_replied rows hits Read Counts answered before now left later w0 w1 request end here t reply is
+taken_ok (Err e) rows hits Read Counts answered before now left later w0 w1 request here t reply is = tt
 
-pub taken_err : {E : Type 0} (result : Result (Option End) E) (rows : GatewayRows) (Read : List ℕ → Type 0) (answered : ℕ) (before now : ReaderState)
+pub taken_err : {E : Type 0} (result : Result (Option End) E) (rows : GatewayRows) (hits : List Hit) (Read : List ℕ → Type 0) (answered : ℕ) (before now : ReaderState)
     (left later w0 w1 : Option (List ℕ)) (request : Request)
     → before.address ≡ local_address → Takes before now left later request
-    → OnErr result (RepliedFront rows (answered + 1 == most_requests) request Read w0 w1)
-    → OnErr result (StopsNext rows Read answered (with_front before.held left) w0 w1)
-taken_err (Ok end) rows Read answered before now left later w0 w1 request here t front = tt
-taken_err (Err e) rows Read answered before now left later w0 w1 request here t front =
-    taken_stopped rows Read answered before now left later w0 w1 request here t front
+    → OnErr result (RepliedFront rows hits (answered + 1 == most_requests) request Read w0 w1)
+    → OnErr result (StopsNext rows hits Read answered (with_front before.held left) w0 w1)
+taken_err (Ok end) rows hits Read answered before now left later w0 w1 request here t front = tt
+taken_err (Err e) rows hits Read answered before now left later w0 w1 request here t front =
+    taken_stopped rows hits Read answered before now left later w0 w1 request here t front
 
 -- a front of the reply was written at that time
-pub replied_front : (rows : GatewayRows) (last : Bool) (request : Request) (Read : List ℕ → Type 0) (before now : Option (List ℕ)) (time : ℕ) → Read (time ∷ [])
-    → ((front : List ℕ) × IsFront front (reply_to rows time last request) × (now ≡ with_end before front))
-    → RepliedFront rows last request Read before now
-replied_front rows last request Read before now time read (front, begins, written) = record { time = time; read = read; front = front; begins = begins; written = written }
+pub replied_front : (rows : GatewayRows) (hits : List Hit) (last : Bool) (request : Request) (Read : List ℕ → Type 0) (before now : Option (List ℕ)) (time : ℕ) → Read (time ∷ [])
+    → ((front : List ℕ) × IsFront front (reply_to rows hits time last request) × (now ≡ with_end before front))
+    → RepliedFront rows hits last request Read before now
+replied_front rows hits last request Read before now time read (front, begins, written) = record { time = time; read = read; front = front; begins = begins; written = written }
 
 -- or nothing of it
-pub replied_nothing : (rows : GatewayRows) (last : Bool) (request : Request) (Read : List ℕ → Type 0) (written : Option (List ℕ)) (time : ℕ) → Read (time ∷ [])
-    → RepliedFront rows last request Read written written
-replied_nothing rows last request Read written time read =
-    record { time = time; read = read; front = []; begins = (reply_to rows time last request, refl); written = sym (with_end-nil written) }
+pub replied_nothing : (rows : GatewayRows) (hits : List Hit) (last : Bool) (request : Request) (Read : List ℕ → Type 0) (written : Option (List ℕ)) (time : ℕ) → Read (time ∷ [])
+    → RepliedFront rows hits last request Read written written
+replied_nothing rows hits last request Read written time read =
+    record { time = time; read = read; front = []; begins = (reply_to rows hits time last request, refl); written = sym (with_end-nil written) }
 
 -- nothing was written
-pub nothing_stopped : (rows : GatewayRows) (Read : List ℕ → Type 0) (answered : ℕ) (ahead written : Option (List ℕ)) → Read []
-    → StopsNext rows Read answered ahead written written
-nothing_stopped rows Read answered ahead written read = record {
+pub nothing_stopped : (rows : GatewayRows) (hits : List Hit) (Read : List ℕ → Type 0) (answered : ℕ) (ahead written : Option (List ℕ)) → Read []
+    → StopsNext rows hits Read answered ahead written written
+nothing_stopped rows hits Read answered ahead written read = record {
   times = [];
   read = read;
   part = [];
@@ -211,10 +231,10 @@ nothing_stopped rows Read answered ahead written read = record {
 }
 
 -- the text that answers a refused message was cut short
-bad_stopped : (rows : GatewayRows) (Read : List ℕ → Type 0) (answered : ℕ) (ahead w0 w1 : Option (List ℕ)) (front : List ℕ) → Read []
+bad_stopped : (rows : GatewayRows) (hits : List Hit) (Read : List ℕ → Type 0) (answered : ℕ) (ahead w0 w1 : Option (List ℕ)) (front : List ℕ) → Read []
     → ((rest : List ℕ) → ahead ≡ Some rest → IsBad rest) → IsFront front bad_request_text → w1 ≡ with_end w0 front
-    → StopsNext rows Read answered ahead w0 w1
-bad_stopped rows Read answered ahead w0 w1 front read bad begins written = record {
+    → StopsNext rows hits Read answered ahead w0 w1
+bad_stopped rows hits Read answered ahead w0 w1 front read bad begins written = record {
   times = [];
   read = read;
   part = front;
@@ -223,22 +243,22 @@ bad_stopped rows Read answered ahead w0 w1 front read bad begins written = recor
 }
 
 -- the text that answers a refused message was written, or cut short
-pub bad_ok : {E : Type 0} (result : Result (Option End) E) (rows : GatewayRows) (Read : List ℕ → Type 0) (answered at at_now place : ℕ)
+pub bad_ok : {E : Type 0} (result : Result (Option End) E) (rows : GatewayRows) (hits : List Hit) (Read : List ℕ → Type 0) (Counts : List Hit → Type 0) (answered at at_now place : ℕ)
     (ahead later w0 w1 : Option (List ℕ)) → Read [] → ((rest : List ℕ) → ahead ≡ Some rest → IsBad rest) → place ≡ at
     → IfOk result (λ end. (end ≡ Some (Bad place)) × (w1 ≡ with_end w0 bad_request_text))
-    → IfOk result (AnswersNext rows Read answered at at_now ahead later w0 w1)
-bad_ok (Ok end) rows Read answered at at_now place ahead later w0 w1 read bad here ok =
-    subst (AnswersNext rows Read answered at at_now ahead later w0 w1) (sym ok.0)
+    → IfOk result (AnswersNext rows hits Read Counts answered at at_now ahead later w0 w1)
+bad_ok (Ok end) rows hits Read Counts answered at at_now place ahead later w0 w1 read bad here ok =
+    subst (AnswersNext rows hits Read Counts answered at at_now ahead later w0 w1) (sym ok.0)
     (here, record { read = read; is = bad; written = ok.1 })
-bad_ok (Err e) rows Read answered at at_now place ahead later w0 w1 read bad here ok = tt
+bad_ok (Err e) rows hits Read Counts answered at at_now place ahead later w0 w1 read bad here ok = tt
 
-pub bad_err : {E : Type 0} (result : Result (Option End) E) (rows : GatewayRows) (Read : List ℕ → Type 0) (answered : ℕ)
+pub bad_err : {E : Type 0} (result : Result (Option End) E) (rows : GatewayRows) (hits : List Hit) (Read : List ℕ → Type 0) (answered : ℕ)
     (ahead w0 w1 : Option (List ℕ)) → Read [] → ((rest : List ℕ) → ahead ≡ Some rest → IsBad rest)
     → OnErr result ((front : List ℕ) × IsFront front bad_request_text × (w1 ≡ with_end w0 front))
-    → OnErr result (StopsNext rows Read answered ahead w0 w1)
-bad_err (Ok end) rows Read answered ahead w0 w1 read bad front = tt
-bad_err (Err e) rows Read answered ahead w0 w1 read bad front =
-    bad_stopped rows Read answered ahead w0 w1 front.0 read bad front.1 front.2
+    → OnErr result (StopsNext rows hits Read answered ahead w0 w1)
+bad_err (Ok end) rows hits Read answered ahead w0 w1 read bad front = tt
+bad_err (Err e) rows hits Read answered ahead w0 w1 read bad front =
+    bad_stopped rows hits Read answered ahead w0 w1 front.0 read bad front.1 front.2
 
 -- the source ended between two messages
 pub closed_next : (Read : List ℕ → Type 0) (before now : ReaderState) (left later written : Option (List ℕ)) → Read []
@@ -294,11 +314,11 @@ abbrev ReadsOn : (List ℕ → Type 0) → (List ℕ → Type 0) → (List ℕ �
 ReadsOn Before Once Now = (times more : List ℕ) → Before times → Once more → Now (times ++ more)
 
 -- one request more was answered
-answers_one_more : (rows : GatewayRows) (Before Once Now : List ℕ → Type 0) (a b c w0 w1 w2 : Option (List ℕ)) (ms : List Message) (n at place : ℕ)
+answers_one_more : (rows : GatewayRows) (Before Once Now : List ℕ → Type 0) (Counts : List Hit → Type 0) (a b c w0 w1 w2 : Option (List ℕ)) (ms : List Message) (n at place : ℕ)
     (asked : Bool) → length ms ≡ n → ReadsOn Before Once Now
-    → Answered rows Before a b w0 w1 ms → (is : IsReplied rows Once n at place b c w1 w2 asked)
+    → (before : Answered rows Before a b w0 w1 ms) → (is : IsReplied rows (hits_of rows before.times ms) Once Counts n at place b c w1 w2 asked)
     → Answered rows Now a c w0 w2 (ms ++ is.message ∷ [])
-answers_one_more rows Before Once Now a b c w0 w1 w2 ms n at place asked counted on before is = record {
+answers_one_more rows Before Once Now Counts a b c w0 w1 w2 ms n at place asked counted on before is = record {
   times = before.times ++ is.time ∷ [];
   one_each = simp length-append (let e = before.one_each in omega arith);
   read = on before.times (is.time ∷ []) before.read is.read;
@@ -306,9 +326,9 @@ answers_one_more rows Before Once Now a b c w0 w1 w2 ms n at place asked counted
   whole = moved_on a b c ms is.message before.whole is.next;
   written =
       is.written
-      ∙ ap (λ w. with_end w (reply_to rows is.time (n + 1 == most_requests) (request_of local_address is.message))) before.written
-      ∙ sym (with_end-append w0 (texts rows 0 before.times ms) (reply_to rows is.time (n + 1 == most_requests) (request_of local_address is.message)))
-      ∙ ap (with_end w0) (sym (texts-push rows 0 n before.times ms is.time is.message (let e = counted in omega arith) before.one_each));
+      ∙ ap (λ w. with_end w (reply_to rows (hits_of rows before.times ms) is.time (n + 1 == most_requests) (request_of local_address is.message))) before.written
+      ∙ sym (with_end-append w0 (texts rows [] 0 before.times ms) (reply_to rows (hits_of rows before.times ms) is.time (n + 1 == most_requests) (request_of local_address is.message)))
+      ∙ ap (with_end w0) (sym (texts-push rows [] 0 n before.times ms is.time is.message (let e = counted in omega arith) before.one_each));
 }
 
 -- so many bytes more were read
@@ -319,15 +339,18 @@ place_more ms m at place before now =
     omega (arith, length-append (flat_map print_message ms) (print_message m))
 
 -- it was answered, and doesn't ask for the end
-pub goes_on : (rows : GatewayRows) (Before Once Now : List ℕ → Type 0) (a b c w0 w1 w2 : Option (List ℕ)) (n at place : ℕ)
-    → ReadsOn Before Once Now → AnsweredOn rows Before a b w0 w1 n at → AnswersNext rows Once n at place b c w1 w2 None
-    → AnsweredOn rows Now a c w0 w2 (n + 1) place
-goes_on rows Before Once Now a b c w0 w1 w2 n at place on is reply = record {
+pub goes_on : (rows : GatewayRows) (Before Once Now : List ℕ → Type 0) (Counts More : List Hit → Type 0) (a b c w0 w1 w2 : Option (List ℕ)) (n at place : ℕ)
+    → ReadsOn Before Once Now → (is : AnsweredOn rows Before Counts a b w0 w1 n at)
+    → AnswersNext rows (hits_of rows is.answered.times is.messages) Once More n at place b c w1 w2 None
+    → AnsweredOn rows Now More a c w0 w2 (n + 1) place
+unfolding answers_one_more
+goes_on rows Before Once Now Counts More a b c w0 w1 w2 n at place on is reply = record {
   messages = is.messages ++ reply.message ∷ [];
   counted = simp length-append (let e = is.counted in omega arith);
   at_is = place_more is.messages reply.message at place is.at_is reply.at;
   on = each-push (λ m. asks m ≡ false) is.messages reply.message is.on reply.asking;
-  answered = answers_one_more rows Before Once Now a b c w0 w1 w2 is.messages n at place false is.counted on is.answered reply;
+  answered = answers_one_more rows Before Once Now More a b c w0 w1 w2 is.messages n at place false is.counted on is.answered reply;
+  counts = subst More (sym (hits-push rows is.answered.times is.messages reply.time reply.message is.answered.one_each)) reply.counts;
 }
 
 -- the clock wasn't read again
@@ -343,10 +366,10 @@ answered_now rows Before Once Now a b w0 w1 ms on none is = record {
 }
 
 -- no request was read, and the answering ends so
-ends_at : (rows : GatewayRows) (Before Once Now : List ℕ → Type 0) (Is : List ℕ → Type 0) (a b w0 w1 w2 : Option (List ℕ)) (n at : ℕ) (end : End)
-    → (is : AnsweredOn rows Before a b w0 w1 n at) → n < most_requests → ReadsOn Before Once Now → EndsAt Once Is b w1 w2 end
+ends_at : (rows : GatewayRows) (Before Once Now : List ℕ → Type 0) (Counts : List Hit → Type 0) (Is : List ℕ → Type 0) (a b w0 w1 w2 : Option (List ℕ)) (n at : ℕ) (end : End)
+    → (is : AnsweredOn rows Before Counts a b w0 w1 n at) → n < most_requests → ReadsOn Before Once Now → EndsAt Once Is b w1 w2 end
     → EndsAhead end is.messages b → AnswersAll rows Now a w0 w2 end
-ends_at rows Before Once Now Is a b w0 w1 w2 n at end is few on next ends = record {
+ends_at rows Before Once Now Counts Is a b w0 w1 w2 n at end is few on next ends = record {
   messages = is.messages;
   most = let e = is.counted in omega arith;
   ahead = b;
@@ -357,19 +380,19 @@ ends_at rows Before Once Now Is a b w0 w1 w2 n at end is few on next ends = reco
 }
 
 -- the answering ends with the next message
-pub ends_next : (rows : GatewayRows) (Before Once Now : List ℕ → Type 0) (a b c w0 w1 w2 : Option (List ℕ)) (n at place : ℕ) (end : End)
-    → ReadsOn Before Once Now → AnsweredOn rows Before a b w0 w1 n at → n < most_requests
-    → AnswersNext rows Once n at place b c w1 w2 (Some end) → AnswersAll rows Now a w0 w2 end
-ends_next rows Before Once Now a b c w0 w1 w2 n at place Closed on is few next =
-    ends_at rows Before Once Now (λ rest. rest ≡ []) a b w0 w1 w2 n at Closed is few on next
+pub ends_next : (rows : GatewayRows) (Before Once Now : List ℕ → Type 0) (Counts More : List Hit → Type 0) (a b c w0 w1 w2 : Option (List ℕ)) (n at place : ℕ) (end : End)
+    → ReadsOn Before Once Now → (is : AnsweredOn rows Before Counts a b w0 w1 n at) → n < most_requests
+    → AnswersNext rows (hits_of rows is.answered.times is.messages) Once More n at place b c w1 w2 (Some end) → AnswersAll rows Now a w0 w2 end
+ends_next rows Before Once Now Counts More a b c w0 w1 w2 n at place Closed on is few next =
+    ends_at rows Before Once Now Counts (λ rest. rest ≡ []) a b w0 w1 w2 n at Closed is few on next
     (λ rest seen. (is.on, let e = is.counted in omega arith, next.is rest seen))
-ends_next rows Before Once Now a b c w0 w1 w2 n at place Asked on is few next =
+ends_next rows Before Once Now Counts More a b c w0 w1 w2 n at place Asked on is few next =
     record {
       messages = is.messages ++ next.message ∷ [];
       most = simp length-append (let e = is.counted in omega arith);
       ahead = c;
       replied = w2;
-      answered = answers_one_more rows Before Once Now a b c w0 w1 w2 is.messages n at place true is.counted on is.answered next;
+      answered = answers_one_more rows Before Once Now More a b c w0 w1 w2 is.messages n at place true is.counted on is.answered next;
       ends = λ rest seen. record {
         before = is.messages;
         last = next.message;
@@ -379,18 +402,18 @@ ends_next rows Before Once Now a b c w0 w1 w2 n at place Asked on is few next =
       };
       last = sym (with_end-nil w2);
     }
-ends_next rows Before Once Now a b c w0 w1 w2 n at place Spent on is few next = absurd next
-ends_next rows Before Once Now a b c w0 w1 w2 n at place (Bad spot) on is few next =
-    ends_at rows Before Once Now IsBad a b w0 w1 w2 n at (Bad spot) is few on next.1
+ends_next rows Before Once Now Counts More a b c w0 w1 w2 n at place Spent on is few next = absurd next
+ends_next rows Before Once Now Counts More a b c w0 w1 w2 n at place (Bad spot) on is few next =
+    ends_at rows Before Once Now Counts IsBad a b w0 w1 w2 n at (Bad spot) is few on next.1
     (λ rest seen. (is.on, let e = is.counted in omega arith, next.1.is rest seen, next.0 ∙ is.at_is))
-ends_next rows Before Once Now a b c w0 w1 w2 n at place (Cut have) on is few next =
-    ends_at rows Before Once Now (λ rest. IsCut rest × (have ≡ length rest)) a b w0 w1 w2 n at (Cut have) is few on next
+ends_next rows Before Once Now Counts More a b c w0 w1 w2 n at place (Cut have) on is few next =
+    ends_at rows Before Once Now Counts (λ rest. IsCut rest × (have ≡ length rest)) a b w0 w1 w2 n at (Cut have) is few on next
     (λ rest seen. (is.on, let e = is.counted in omega arith, (next.is rest seen).0, (next.is rest seen).1))
 
 -- as many were answered as may be
-pub ends_spent : (rows : GatewayRows) (Read : List ℕ → Type 0) (a b w0 w1 : Option (List ℕ)) (n at : ℕ)
-    → AnsweredOn rows Read a b w0 w1 n at → n ≡ most_requests → AnswersAll rows Read a w0 w1 Spent
-ends_spent rows Read a b w0 w1 n at is all = record {
+pub ends_spent : (rows : GatewayRows) (Read : List ℕ → Type 0) (Counts : List Hit → Type 0) (a b w0 w1 : Option (List ℕ)) (n at : ℕ)
+    → AnsweredOn rows Read Counts a b w0 w1 n at → n ≡ most_requests → AnswersAll rows Read a w0 w1 Spent
+ends_spent rows Read Counts a b w0 w1 n at is all = record {
   messages = is.messages;
   most = let e = is.counted in omega arith;
   ahead = b;
@@ -401,10 +424,11 @@ ends_spent rows Read a b w0 w1 n at is all = record {
 }
 
 -- the answering is cut short at the next message
-pub stops_next : (rows : GatewayRows) (Before Once Now : List ℕ → Type 0) (a b w0 w1 w2 : Option (List ℕ)) (n at : ℕ)
-    → ReadsOn Before Once Now → AnsweredOn rows Before a b w0 w1 n at → n < most_requests → StopsNext rows Once n b w1 w2
+pub stops_next : (rows : GatewayRows) (Before Once Now : List ℕ → Type 0) (Counts : List Hit → Type 0) (a b w0 w1 w2 : Option (List ℕ)) (n at : ℕ)
+    → ReadsOn Before Once Now → (is : AnsweredOn rows Before Counts a b w0 w1 n at) → n < most_requests
+    → StopsNext rows (hits_of rows is.answered.times is.messages) Once n b w1 w2
     → AnswersFront rows Now a w0 w2
-stops_next rows Before Once Now a b w0 w1 w2 n at on is few next = record {
+stops_next rows Before Once Now Counts a b w0 w1 w2 n at on is few next = record {
   messages = is.messages;
   few = let e = is.counted in omega arith;
   on = is.on;
@@ -416,11 +440,11 @@ stops_next rows Before Once Now a b w0 w1 w2 n at on is few next = record {
   ahead = b;
   whole = is.answered.whole;
   part = next.part;
-  stops = λ rest seen. subst (λ k. StopsIn rows k next.times rest next.part) (sym is.counted) (next.stops rest seen);
+  stops = λ rest seen. subst (λ k. StopsIn rows (hits_of rows is.answered.times is.messages) k next.times rest next.part) (sym is.counted) (next.stops rest seen);
   written =
       next.written
       ∙ ap (λ w. with_end w next.part) is.answered.written
-      ∙ sym (with_end-append w0 (texts rows 0 is.answered.times is.messages) next.part);
+      ∙ sym (with_end-append w0 (texts rows [] 0 is.answered.times is.messages) next.part);
 }
 
 -- the answering is cut short before the first request

@@ -1,3 +1,4 @@
 pub mod AnsweredLemmas
-pub mod EchoLemmas
+mod DriveLemmas
 pub mod EndLemmas
+mod StraightLemmas

@@ -1,6 +1,7 @@
 pub mod Answered
 pub mod AnsweringSteps
 pub mod DryReply
-pub mod Echoes
+pub mod Driving
 pub mod Fronts
 pub mod Replies
+pub mod Starts

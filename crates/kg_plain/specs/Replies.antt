@@ -5,7 +5,8 @@ use Rattle.std.specs.List.{flat_map, AllByRecursion}
 use Rattle.kg_print.specs.Connection.{asks_for_end}
 use Rattle.kg_wire.specs.Messages.{Message, IsRequest, print_message, request_of}
 use Rattle.kg_wire.specs.Refusals.{IsBad, IsCut}
-use Rattle.kg_plain.specs.DryReply.{GatewayRows, bad_request_text, reply_to}
+use Rattle.kg_limit.specs.declared.hit.Hit.{Hit}
+use Rattle.kg_plain.specs.DryReply.{GatewayRows, bad_request_text, counted, reply_to}
 use Rattle.kg_plain.specs.Fronts.{IsFront}
 use Rattle.kg_plain.specs.declared.answers.End.{End}
 use Rattle.kg_plain.specs.declared.answers.End.TheVariants.{Closed, Asked, Spent, Bad, Cut}
@@ -18,11 +19,17 @@ most_requests = 1000
 abbrev pub local_address : List ℕ
 local_address = 127 ∷ 0 ∷ 0 ∷ 1 ∷ []
 
--- the replies to these requests at these times, before which so many were answered
-abbrev pub texts : GatewayRows → ℕ → List ℕ → List Message → List ℕ
-texts rows answered (time ∷ times) (m ∷ ms) =
-    reply_to rows time (answered + 1 == most_requests) (request_of local_address m) ++ texts rows (answered + 1) times ms
-texts rows answered _ _ = []
+-- the hits of these requests at these times
+abbrev pub hits_of : GatewayRows → List ℕ → List Message → List Hit
+hits_of rows (time ∷ times) (m ∷ ms) = counted rows time (request_of local_address m) ++ hits_of rows times ms
+hits_of rows _ _ = []
+
+-- the replies to these requests at these times, before which there were these hits, and so many were answered
+abbrev pub texts : GatewayRows → List Hit → ℕ → List ℕ → List Message → List ℕ
+texts rows hits answered (time ∷ times) (m ∷ ms) =
+    reply_to rows hits time (answered + 1 == most_requests) (request_of local_address m)
+    ++ texts rows (hits ++ counted rows time (request_of local_address m)) (answered + 1) times ms
+texts rows hits answered _ _ = []
 
 -- the request asks for the end of the connection
 abbrev pub asks : Message → Bool
@@ -60,20 +67,20 @@ last_text (Cut have) = []
 
 -- ---- the answering is cut short
 
--- a request stands next, behind so many that were answered, and these bytes are a front of the reply to it at
--- this time
-pub record BeginsReply (rows : GatewayRows) (time answered : ℕ) (rest part : List ℕ) : Type 0 where
+-- a request stands next, behind these hits and so many requests that were answered, and these bytes are a front of
+-- the reply to it at this time
+pub record BeginsReply (rows : GatewayRows) (hits : List Hit) (time answered : ℕ) (rest part : List ℕ) : Type 0 where
   pub next : Message
   pub behind : List ℕ
   pub is : IsRequest next
   pub stands : rest ≡ print_message next ++ behind
-  pub begins : IsFront part (reply_to rows time (answered + 1 == most_requests) (request_of local_address next))
+  pub begins : IsFront part (reply_to rows hits time (answered + 1 == most_requests) (request_of local_address next))
 
--- what was written behind so many whole replies, and the readings of the clock since the last of them: nothing,
--- with none; a front of the reply to the next request, with one; or a front of the 400 of a refused message,
--- with none
-abbrev pub StopsIn : GatewayRows → ℕ → List ℕ → List ℕ → List ℕ → Type 0
-StopsIn rows answered since rest part =
+-- what was written behind these hits and so many whole replies, and the readings of the clock since the last of
+-- them: nothing, with none; a front of the reply to the next request, with one; or a front of the 400 of a refused
+-- message, with none
+abbrev pub StopsIn : GatewayRows → List Hit → ℕ → List ℕ → List ℕ → List ℕ → Type 0
+StopsIn rows hits answered since rest part =
     ((since ≡ []) × (part ≡ []))
-    ⊎ ((time : ℕ) × (since ≡ time ∷ []) × BeginsReply rows time answered rest part)
+    ⊎ ((time : ℕ) × (since ≡ time ∷ []) × BeginsReply rows hits time answered rest part)
     ⊎ ((since ≡ []) × IsBad rest × IsFront part bad_request_text)

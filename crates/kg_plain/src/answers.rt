@@ -3,6 +3,8 @@
 ghost use Rattle.std.specs.Prelude.{◌≡◌, ◌<◌, ◌+◌, ◌==◌, ℕ, List as Sequence, None, Ok, IfOk, OnOk, OnErr, IsErrOf};
 ghost use Rattle.kg_outside.specs.Causes.{Rose};
 ghost use Rattle.kg_outside.specs.Moves.{with_end, with_front};
+ghost use Rattle.kg_limit.specs.Representing.{Represents};
+ghost use Rattle.kg_limit.specs.declared.hit.Hit.{Hit as AHit};
 ghost use Rattle.kg_print.specs.Connection.{asks_for_end};
 ghost use Rattle.kg_plain.specs.Answered.{AnswersAll, AnswersFront};
 ghost use Rattle.kg_plain.specs.AnsweringSteps.{AnswersNext, Replied, RepliedFront, StopsNext, asked_end};
@@ -12,6 +14,7 @@ ghost use Rattle.kg_plain.specs.Replies.{local_address, most_requests};
 ghost use Rattle.kg_plain.specs.declared.answers.End.{End as AnEnd};
 
 use crate::gateway::{Gateway, bad_request_text};
+use kg_limit::Windows;
 use kg_message::Request;
 use kg_outside::{Clock, Failed, Sink, Source};
 use kg_text::NoMemory;
@@ -71,8 +74,8 @@ impl From<Failed> for Stop {
 }
 
 /// Answers the requests of the source one after another, each with the gateway's reply, up to the first that
-/// asks for the end of the connection or the thousandth. The clock is read once for each. A message that is
-/// refused before is answered with 400, and no more is read.
+/// asks for the end of the connection or the thousandth. The clock is read once for each, and their hits are counted
+/// one after another, from none on. A message that is refused before is answered with 400, and no more is read.
 ///
 /// An error is a fault of the source, one of the sink, or want of memory: then whole replies are written, and a
 /// front of what comes next.
@@ -93,9 +96,19 @@ pub fn answer_all<S: Source, K: Sink, T: Clock>(
     ensures write { IsErrOf result Stop.WriteFault → Rose (K.faults sink.old) (K.faults sink.new) }
 {
     let mut reader = Reader::new(alloc, LOCAL_ADDRESS)?;
+    let mut windows = Windows::new(alloc);
     let mut count = 0;
     while count < MOST_REQUESTS {
-        match answer_next(alloc, gateway, &mut reader, source, sink, clock, count)? {
+        match answer_next(
+            alloc,
+            gateway,
+            &mut windows,
+            &mut reader,
+            source,
+            sink,
+            clock,
+            count,
+        )? {
             Some(end) => return Ok(end),
             None => count += 1,
         }
@@ -107,6 +120,7 @@ pub fn answer_all<S: Source, K: Sink, T: Clock>(
 fn answer_next<S: Source, K: Sink, T: Clock>(
     alloc: Global,
     gateway: &Gateway,
+    windows: &mut Windows,
     reader: &mut Reader,
     source: &mut S,
     sink: &mut K,
@@ -118,9 +132,10 @@ fn answer_next<S: Source, K: Sink, T: Clock>(
     requires few { answered < most_requests }
     ensures address { reader.new.address ≡ reader.old.address }
     ensures on { result ≡ Ok None → reader.new.error ≡ None }
-    ensures ok { IfOk result (AnswersNext gateway.now (T.reads clock.old clock.new) answered reader.old.at reader.new.at
+    ensures ok { (hits : Sequence AHit) → Represents windows.old hits
+        → IfOk result (AnswersNext gateway.now hits (T.reads clock.old clock.new) (Represents windows.new) answered reader.old.at reader.new.at
         (with_front reader.old.held (S.left source.old)) (with_front reader.new.held (S.left source.new)) (K.written sink.old) (K.written sink.new)) }
-    ensures err { OnErr result (StopsNext gateway.now (T.reads clock.old clock.new) answered (with_front reader.old.held (S.left source.old))
+    ensures err { (hits : Sequence AHit) → Represents windows.old hits → OnErr result (StopsNext gateway.now hits (T.reads clock.old clock.new) answered (with_front reader.old.held (S.left source.old))
         (K.written sink.old) (K.written sink.new)) }
     ensures kept_read { OnOk result (S.faults source.new ≡ S.faults source.old) }
     ensures kept_write { OnOk result (K.faults sink.new ≡ K.faults sink.old) }
@@ -130,7 +145,7 @@ fn answer_next<S: Source, K: Sink, T: Clock>(
     match reader.next_request(alloc, source) {
         Ok(Some(request)) => {
             let last = answered + 1 == MOST_REQUESTS;
-            answer_request(alloc, gateway, request, last, sink, clock)
+            answer_request(alloc, gateway, windows, request, last, sink, clock)
         }
         Ok(None) => Ok(Some(End::Closed)),
         Err(ReadError::Bad { at }) => answer_bad(alloc, at, sink),
@@ -146,21 +161,24 @@ fn answer_next<S: Source, K: Sink, T: Clock>(
 fn answer_request<K: Sink, T: Clock>(
     alloc: Global,
     gateway: &Gateway,
+    windows: &mut Windows,
     request: Request,
     last: bool,
     sink: &mut K,
     clock: &mut T,
 ) -> Result<Option<End>, Stop>
     ensures end { IfOk result (λ end. end ≡ asked_end (asks_for_end request)) }
-    ensures ok { OnOk result (Replied gateway.now last request (T.reads clock.old clock.new) (K.written sink.old) (K.written sink.new)) }
-    ensures err { OnErr result (RepliedFront gateway.now last request (T.reads clock.old clock.new) (K.written sink.old) (K.written sink.new)) }
+    ensures ok { (hits : Sequence AHit) → Represents windows.old hits
+        → OnOk result (Replied gateway.now hits last request (T.reads clock.old clock.new) (Represents windows.new) (K.written sink.old) (K.written sink.new)) }
+    ensures err { (hits : Sequence AHit) → Represents windows.old hits
+        → OnErr result (RepliedFront gateway.now hits last request (T.reads clock.old clock.new) (K.written sink.old) (K.written sink.new)) }
     ensures kept { OnOk result (K.faults sink.new ≡ K.faults sink.old) }
     ensures read { IsErrOf result Stop.ReadFault → ⊥ }
     ensures write { IsErrOf result Stop.WriteFault → Rose (K.faults sink.old) (K.faults sink.new) }
 {
     let asks = asks_for_end(&request);
     let time = clock.now();
-    let text = gateway.reply_to(alloc, request, time, last)?;
+    let text = gateway.reply_to(alloc, windows, request, time, last)?;
     write_whole(sink, text.as_slice())?;
     if asks { Ok(Some(End::Asked)) } else { Ok(None) }
 }

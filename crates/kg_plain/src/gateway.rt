@@ -1,20 +1,25 @@
-//! The gateway of a dry run: one request, what it wants, and the reply.
+//! The gateway of a dry run: one request, and its reply.
 
-ghost use Rattle.std.specs.Prelude.{◌≡◌, false, IfOk, OnOk};
+ghost use Rattle.std.specs.Prelude.{◌≡◌, ◌++◌, List as Sequence, IfOk};
 ghost use Rattle.std.specs.Arc.{arc_value};
-ghost use Rattle.kg_plain.specs.DryReply.{bad_request, bad_request_text, dry_reply, is_bodiless, reply_to};
-ghost use Rattle.kg_plain.specs.Echoes.{echo_to, echoed};
-ghost use Rattle.kg_course.specs.Wants.{IsReply};
-ghost use Rattle.kg_visit.specs.Told.{begun, want_after};
-ghost use Rattle.kg_course.specs.Walks.{AreBuilt};
-ghost use Rattle.kg_course.specs.declared.want.Want.TheVariants as AWant;
+ghost use Rattle.kg_limit.specs.Representing.{Represents};
+ghost use Rattle.kg_limit.specs.declared.hit.Hit.{Hit as AHit};
+ghost use Rattle.kg_plain.specs.Driving.{Responds};
+ghost use Rattle.kg_plain.specs.Starts.{IsWayOf, StartsSo};
+ghost use Rattle.kg_plain.specs.DryReply.{bad_request, bad_request_text, counted, is_bodiless, reply_to};
+ghost use Rattle.kg_visit.specs.Told.{begun};
 
-use kg_context::{Upstream, echo_of};
+use crate::drive::drive;
+use kg_course::no_route;
+use kg_direct::{is_touched, straight_message};
+use kg_entities::Rows;
+use kg_limit::Windows;
 use kg_message::{Request, Response, message};
 use kg_plugin_table::PluginGen;
 use kg_router::RouterGen;
-use kg_text::{Bytes, NoMemory, TryClone};
-use kg_visit::{Visit, Visited, Want};
+use kg_text::{Bytes, NoMemory};
+use kg_upstream::{Way, reply_by_echo, way_of};
+use kg_visit::Visit;
 use kg_wire::{Keeping, keeping_of, render_response};
 use std::alloc::Global;
 use std::marker::Model;
@@ -23,35 +28,51 @@ use std::sync::Arc;
 // The one worker of a dry run.
 const WORKER: u32 = 1;
 
-/// A gateway over an echo as its upstream. Contracts see the rows that it answers by.
+/// What becomes of a request as the router finds its route.
+#[derive(Drop)]
+pub(crate) enum Start {
+    /// No route takes it, or no plugin touches it: it has its response.
+    Straight(Response),
+    /// It goes on this way, over its plugins.
+    Touched(Way),
+}
+
+/// A gateway over the rows that were declared, with an echo as its upstream. Contracts see the rows that it
+/// answers by.
 #[derive(Drop)]
 pub struct Gateway {
     router: Arc<RouterGen>,
     plugins: Arc<PluginGen>,
+    rows: Rows,
+    // How many commands declared them.
+    commands: u64,
 }
 
 impl Model for Gateway {
     ghost use Rattle.std.specs.Arc.{arc_value};
     ghost use Rattle.kg_plain.specs.DryReply.{GatewayRows};
-    ghost use Rattle.kg_course.specs.Walks.{AreBuilt};
 
     ghost Value = { GatewayRows };
 
-    ghost view = { λ gateway. record { router = arc_value gateway.router; plugins = arc_value gateway.plugins } };
-
-    ghost invariant = { λ gateway. AreBuilt (arc_value gateway.plugins).rows };
+    ghost view = { λ gateway. record { router = arc_value gateway.router; plugins = arc_value gateway.plugins; declared = gateway.rows; commands = gateway.commands } };
 }
 
 impl Gateway {
-    /// The gateway by this router and these plugins, each of which is one that runs.
-    pub fn new(alloc: Global, router: RouterGen, plugins: PluginGen) -> Result<Gateway, NoMemory>
-        requires built { AreBuilt plugins.rows }
-        ensures { IfOk result (λ gateway. gateway ≡ record { router = router; plugins = plugins }) }
+    /// The gateway by this router and these plugins, with the values of these rows, which so many commands declared.
+    pub fn new(
+        router: Arc<RouterGen>,
+        plugins: Arc<PluginGen>,
+        rows: Rows,
+        commands: u64,
+    ) -> Gateway
+        ensures { result ≡ record { router = arc_value router; plugins = arc_value plugins; declared = rows; commands = commands } }
     {
-        Ok(Gateway {
-            router: Arc::new(alloc, router)?,
-            plugins: Arc::new(alloc, plugins)?,
-        })
+        Gateway {
+            router,
+            plugins,
+            rows,
+            commands,
+        }
     }
 
     /// The plugins that it answers by.
@@ -61,33 +82,117 @@ impl Gateway {
         &self.plugins
     }
 
-    /// The text of the reply to the request at a time, in milliseconds. `last` says that the connection ends
-    /// with it, whatever the request asks.
+    /// The rows of which it takes the values of keys.
+    pub fn rows(&self) -> &Rows
+        ensures { result.now ≡ self.now.declared }
+    {
+        &self.rows
+    }
+
+    /// How many commands declared its rows.
+    pub fn commands(&self) -> u64
+        ensures { result ≡ self.now.commands }
+    {
+        self.commands
+    }
+
+    /// The text of the reply to the request at a time, in milliseconds, after the hits that the windows stand for;
+    /// its own hit is counted. `last` says that the connection ends with it, whatever the request asks.
     #[tactic(auto, unfolding(crate::specs::DryReply::reply_to))]
     pub fn reply_to(
         &self,
         alloc: Global,
+        windows: &mut Windows,
         request: Request,
         time: u64,
         last: bool,
     ) -> Result<Bytes, NoMemory>
-        ensures { IfOk result (λ text. text ≡ reply_to self.now time last request) }
+        ensures { (hits : Sequence AHit) → Represents windows.old hits
+            → IfOk result (λ text. (text ≡ reply_to self.now hits time last request) × Represents windows.new (hits ++ counted self.now time request)) }
     {
         let bodiless = is_bodiless(&request);
         let keeping = keeping_of(last, &request);
-        let response = self.response(alloc, request, time)?;
+        let response = self.response(alloc, windows, request, time)?;
         render_response(alloc, &response, bodiless, keeping)
     }
 
     // The response to the request.
-    fn response(&self, alloc: Global, request: Request, time: u64) -> Result<Response, NoMemory>
-        ensures { IfOk result (λ response. response ≡ dry_reply self.now time request) }
+    fn response(
+        &self,
+        alloc: Global,
+        windows: &mut Windows,
+        request: Request,
+        time: u64,
+    ) -> Result<Response, NoMemory>
+        ensures { (hits : Sequence AHit) → Represents windows.old hits
+            → IfOk result (λ response. Responds self.now hits time request response windows.new) }
     {
-        let mut visit = self.visit(alloc, request, time)?;
-        match tell_echo(alloc, &mut visit) {
-            Ok(()) => Ok(response_of(visit)),
+        match self.start(alloc, &request) {
+            Ok(Start::Straight(response)) => {
+                drop(request); // here and below let go by name: a short proof
+                Ok(response)
+            }
+            Ok(Start::Touched(way)) => self.driven(alloc, windows, way, request, time),
             Err(e) => {
-                drop(visit); // let go by name: a short proof
+                drop(request);
+                Err(e)
+            }
+        }
+    }
+
+    // What becomes of the request as the router finds its route.
+    fn start(&self, alloc: Global, request: &Request) -> Result<Start, NoMemory>
+        ensures { IfOk result (StartsSo self.now request.now) }
+    {
+        match self.router.find(alloc, request)? {
+            Some(choice) => {
+                if is_touched(&self.plugins, &choice) {
+                    Ok(Start::Touched(way_of(alloc, &choice, request)?))
+                } else {
+                    let message = straight_message(alloc, &choice, request)?;
+                    Ok(Start::Straight(reply_by_echo(alloc, message)?))
+                }
+            }
+            None => Ok(Start::Straight(no_route(alloc)?)),
+        }
+    }
+
+    // The response that the request's plugins come to, on its way.
+    fn driven(
+        &self,
+        alloc: Global,
+        windows: &mut Windows,
+        way: Way,
+        request: Request,
+        time: u64,
+    ) -> Result<Response, NoMemory>
+        requires { IsWayOf self.now request way }
+        ensures { (hits : Sequence AHit) → Represents windows.old hits
+            → IfOk result (λ response. Responds self.now hits time request response windows.new) }
+    {
+        match self.visit_on(alloc, way, request, time) {
+            Ok(visit) => drive(alloc, self, windows, visit),
+            Err(e) => Err(e),
+        }
+    }
+
+    // The request as it begins on its way.
+    fn visit_on(
+        &self,
+        alloc: Global,
+        way: Way,
+        request: Request,
+        time: u64,
+    ) -> Result<Visit, NoMemory>
+        requires { IsWayOf self.now request way }
+        ensures { IfOk result (λ visit. visit ≡ begun self.now.router self.now.plugins request (record { time = time; who = 1 })) }
+    {
+        match self.shares() {
+            Ok((router, plugins)) => {
+                Visit::begin_on(alloc, router, plugins, Some(way), request, time, WORKER)
+            }
+            Err(e) => {
+                drop((way, request));
                 Err(e)
             }
         }
@@ -97,53 +202,21 @@ impl Gateway {
     pub fn visit(&self, alloc: Global, request: Request, time: u64) -> Result<Visit, NoMemory>
         ensures { IfOk result (λ visit. visit ≡ begun self.now.router self.now.plugins request (record { time = time; who = 1 })) }
     {
-        let router = Arc::try_clone(&self.router)?;
-        let plugins = Arc::try_clone(&self.plugins)?;
-        Visit::begin(alloc, router, plugins, request, time, WORKER)
-    }
-}
-
-// Tells a request the echo's answer, where it wants it.
-fn tell_echo(alloc: Global, visit: &mut Visit) -> Result<(), NoMemory>
-    requires whole { visit.old.lost ≡ false }
-    ensures { OnOk result (visit.new ≡ echoed visit.old) }
-{
-    match echo_to(alloc, visit.want())? {
-        Some(answer) => visit.give_upstream(alloc, answer),
-        None => Ok(()),
-    }
-}
-
-// The echo's answer, where it is wanted.
-fn echo_to(alloc: Global, want: &Want) -> Result<Option<Upstream>, NoMemory>
-    ensures { IfOk result (λ answer. answer ≡ echo_to want.now) }
-{
-    match want {
-        Want::Upstream(message) => {
-            let bytes = message.bytes.try_clone(alloc)?;
-            Ok(Some(Upstream::Answered(echo_of(alloc, bytes)?)))
+        match self.shares() {
+            Ok((router, plugins)) => { Visit::begin(alloc, router, plugins, request, time, WORKER) }
+            Err(e) => {
+                drop(request);
+                Err(e)
+            }
         }
-        Want::Entity(_) => Ok(None),
-        Want::Count(_) => Ok(None),
-        Want::Done(_) => Ok(None),
     }
-}
 
-// The response to a request that wants nothing more.
-fn response_of(visit: Visit) -> Response
-    requires whole { visit.lost ≡ false }
-    requires done { IsReply (want_after visit) }
-    ensures { want_after visit ≡ AWant.Done result }
-{
-    let Visited {
-        response,
-        uses,
-        verdicts,
-        upstream,
-    } = visit.finish();
-    // let go by name: a short proof
-    drop((uses, verdicts, upstream));
-    response
+    fn shares(&self) -> Result<(Arc<RouterGen>, Arc<PluginGen>), NoMemory>
+        ensures { IfOk result (λ shares. (arc_value shares.0 ≡ self.now.router) × (arc_value shares.1 ≡ self.now.plugins)) }
+    {
+        let router = Arc::try_clone(&self.router)?;
+        Ok((router, Arc::try_clone(&self.plugins)?))
+    }
 }
 
 /// The text that answers a message which is refused.

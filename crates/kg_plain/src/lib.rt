@@ -3,6 +3,7 @@
 #![tactic(auto)]
 
 mod answers;
+mod drive;
 mod gateway;
 
 pub use crate::answers::{End, Stop, answer_all};

@@ -17,7 +17,7 @@ loop-count-init g c =
       address = ap (λ (r : ReaderState). r.address) made;
       few = omega arith;
       answered =
-          none_answered _ _ _ _ _ _ (g.met.T.Clock.reads_none c.args.clock.now)
+          none_answered _ _ _ _ _ _ _ (g.met.T.Clock.reads_none c.args.clock.now) c.new-windows.ensures
           (sym (ap (λ (r : ReaderState). with_front r.held (g.S.Source.left c.args.source.now)) made ∙ with_front-nil _))
           (ap (λ (r : ReaderState). r.at) made);
       kept_read = refl;
@@ -28,19 +28,19 @@ loop-count-init g c =
 pub returns-in_err-end-clause-err : goal.returns-in_err-end-clause-err
 returns-in_err-end-clause-err g c =
     on_err _
-    (stops_next _ _ _ _ _ _ _ _ _ c.loop-count.count _ (g.met.T.Clock.reads_on _ _ _)
-    c.loop-count.invariant.answered c.loop-count-test.true c.in_err-end.ensures.err)
+    (stops_next _ _ _ _ _ _ _ _ _ _ c.loop-count.count _ (g.met.T.Clock.reads_on _ _ _)
+    c.loop-count.invariant.answered c.loop-count-test.true (c.in_err-end.ensures.err _ c.loop-count.invariant.answered.counts))
 
 -- it goes on
 pub loop-count-preserved : goal.loop-count-preserved
 loop-count-preserved g c =
-    let next = rw c.in-None.is at c.in_ok-end.ensures.ok in
+    let next = rw c.in-None.is at (c.in_ok-end.ensures.ok _ c.loop-count.invariant.answered.counts) in
     record {
       fresh = c.in_ok-end.ensures.on (ap Ok c.in-None.is);
       address = c.in_ok-end.ensures.address ∙ c.loop-count.invariant.address;
       few = omega arith;
       answered =
-          goes_on _ _ _ _ _ _ _ _ _ _ c.loop-count.count _ _ (g.met.T.Clock.reads_on _ _ _)
+          goes_on _ _ _ _ _ _ _ _ _ _ _ _ c.loop-count.count _ _ (g.met.T.Clock.reads_on _ _ _)
           c.loop-count.invariant.answered next;
       kept_read = c.in_ok-end.ensures.kept_read ∙ c.loop-count.invariant.kept_read;
       kept_write = c.in_ok-end.ensures.kept_write ∙ c.loop-count.invariant.kept_write;
@@ -49,5 +49,5 @@ loop-count-preserved g c =
 -- it ends
 pub returns-in-Some-clause-ok : goal.returns-in-Some-clause-ok
 returns-in-Some-clause-ok g c =
-    ends_next _ _ _ _ _ _ _ _ _ _ c.loop-count.count _ _ _ (g.met.T.Clock.reads_on _ _ _)
-    c.loop-count.invariant.answered c.loop-count-test.true (rw c.in-Some.is at c.in_ok-end.ensures.ok)
+    ends_next _ _ _ _ _ _ _ _ _ _ _ _ c.loop-count.count _ _ _ (g.met.T.Clock.reads_on _ _ _)
+    c.loop-count.invariant.answered c.loop-count-test.true (rw c.in-Some.is at (c.in_ok-end.ensures.ok _ c.loop-count.invariant.answered.counts))

@@ -1,14 +1,8 @@
-use Rattle.kg_plain.proofs.EchoLemmas.{is_answered, is_dry_reply, is_whole}
+use Rattle.kg_plain.proofs.StraightLemmas.{straight_responds}
 use Rattle.kg_plain.proofs.gateway.Gateway.response.Goals as goal
 
--- once the echo has answered, the request isn't lost
-pub response_of-requires-clause-whole : goal.response_of-requires-clause-whole
-response_of-requires-clause-whole c = is_whole _ _ _ _ _ _ c.in_ok-visit.ensures c.in-Ok.ensures
-
--- it wants nothing more
-pub response_of-requires-clause-done : goal.response_of-requires-clause-done
-response_of-requires-clause-done c = is_answered _ _ _ _ _ _ c.in_ok-visit.ensures c.in-Ok.ensures
-
--- than the dry reply
-pub returns-in-Ok : goal.returns-in-Ok
-returns-in-Ok c = is_dry_reply _ _ _ _ _ _ c.in_ok-visit.ensures c.in-Ok.ensures c.response_of.ensures
+-- it had its response at once
+pub returns-in-Ok-Straight : goal.returns-in-Ok-Straight
+returns-in-Ok-Straight c hits stands =
+    straight_responds c.args.self.now hits c.args.time c.args.request c.in-Ok-Straight.response c.args.windows.now
+    (rw c.in-Ok-Straight.field-0-is at c.in-Ok-Straight.ensures) stands
