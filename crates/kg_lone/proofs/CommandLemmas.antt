@@ -1,26 +1,18 @@
 -- What the first line is answered.
-use Rattle.std.proofs.Common.{◌≡◌, ℕ, ◌≤◌, ◌⊎◌, inl, inr, Bool, true, false, not, cond, List, [], ◌++◌, Option, Result, Ok, Err, IfOk, IfErr, length, refl, sym, ap, subst, ◌∙◌, arith}
+use Rattle.std.proofs.Common.{◌≡◌, ℕ, ◌≤◌, ◌⊎◌, inl, inr, false, List, [], ◌++◌, Option, Result, Ok, Err, length, refl, sym, ap, subst, ◌∙◌, arith}
 use Rattle.std.specs.Prelude.{nat_lt}
-use Rattle.std.specs.List.{list_all}
 use Rattle.std.proofs.lemmas.Bool.{le-ltb, lt-ltb}
-use Rattle.kg_row_types.specs.declared.plugin.PluginRow.{PluginRow}
-use Rattle.kg_declare.specs.Histories.{AreInsertions}
-use Rattle.kg_declare.specs.Outcome.{Accepted, Refused, drawn_for, next, outcome}
-use Rattle.kg_declare.specs.Steps.{Answers, accepted_after}
-use Rattle.kg_declare.specs.declared.error.DeclareError.{DeclareError}
+use Rattle.kg_declare.specs.Outcome.{Accepted, Refused, drawn_for, outcome}
 use Rattle.kg_declare.specs.declared.error.DeclareError.TheVariants as error
 use Rattle.kg_message.specs.declared.response.Response.{Response}
 use Rattle.kg_outside.specs.Moves.{with_end}
 use Rattle.kg_plain.specs.Fronts.{IsFront}
 use Rattle.kg_row_values.specs.declared.command.Command.{Command}
-use Rattle.kg_course.specs.Phases.{runs}
-use Rattle.kg_lone.specs.FirstCommands.{AnswersFirst, DrawsWithin, FirstLineCall, GivesCommands, IsRefused, first_outcome, most_line, not_built, refusal_line, run_outcome, with_built_plugins}
+use Rattle.kg_lone.specs.FirstCommands.{AnswersFirst, DrawsWithin, FirstLineCall, GivesCommands, IsRefused, first_outcome, most_line, refusal_line}
 use Rattle.kg_lone.specs.FirstLine.{GivesLine, line_of}
-use Rattle.kg_lone.specs.InsertedRows.{has_unbuilt}
-use Rattle.kg_lone.specs.LineSteps.{AnswersLine, DecidesMeant, RefusesWith, read_outcome}
+use Rattle.kg_lone.specs.LineSteps.{AnswersLine, DecidesMeant, read_outcome}
 use Rattle.kg_lone.specs.declared.line.FirstLine.{FirstLine}
 use Rattle.kg_lone.specs.declared.line.FirstLine.TheVariants.{Whole, TooLong}
-use Rattle.kg_lone.proofs.InsertedLemmas.{built_are}
 
 -- ---- the line
 
@@ -33,22 +25,10 @@ pub read_is_first : (bytes : List ℕ) (line : FirstLine) (left : Option (List �
 unfolding first_outcome
 read_is_first bytes (Whole line) left now limit draws is =
     let short : nat_lt most_line (length (line_of bytes)) ≡ false = not_past (length (line_of bytes)) (subst (λ l. length l ≤ most_line) is.is is.within) in
-    rw short (ap (λ l. run_outcome l now limit draws) (sym is.is))
+    rw short (ap (λ l. outcome l now limit draws) (sym is.is))
 read_is_first bytes TooLong left now limit draws is = rw (lt-ltb most_line (length (line_of bytes)) is) refl
 
 -- ---- how many ids are drawn
-
--- a plugin that isn't run changes no count of ids
-drawn_with_built : (accepted : Accepted) → drawn_for (with_built_plugins accepted) ≡ accepted.drawn
-drawn_with_built accepted = by_test (list_all (λ (row : PluginRow). runs row.config) accepted.rows.plugins)
-  where
-    by_test : (none : Bool) → drawn_for (cond none (Ok accepted) (Err (record { response = not_built; drawn = accepted.drawn }))) ≡ accepted.drawn
-    by_test true = refl
-    by_test false = refl
-
-drawn_next : (meant : Result Accepted Refused) → drawn_for (next with_built_plugins meant) ≡ drawn_for meant
-drawn_next (Ok accepted) = drawn_with_built accepted
-drawn_next (Err refused) = refl
 
 -- a line that is decided so draws its ids
 pub within_decided : (meant : List (List ℕ) → Result Accepted Refused) (drawn : List (List ℕ)) (answer : Result Accepted Refused)
@@ -62,38 +42,6 @@ within_first : (bytes : List ℕ) (line : FirstLine) (left : Option (List ℕ)) 
 within_first bytes line left now limit drawn first within = λ more.
     let same = ap drawn_for (read_is_first bytes line left now limit (drawn ++ more) first) in
     let some = within more in
-    omega arith
-
--- ---- what its declaration is answered
-
--- a refusal of the declaration is one of the line
-pub declines : (line : List ℕ) (now limit : ℕ) (drawn : List (List ℕ)) (e : DeclareError)
-    → ((more : List (List ℕ)) → Answers (Err e) (outcome line now limit (drawn ++ more)) (length drawn))
-    → AnswersLine (Err e) (run_outcome line now limit) drawn
-unfolding run_outcome
-declines line now limit drawn (error.Refused response) is = λ more. ap (next with_built_plugins) (is more)
-declines line now limit drawn error.NoMemory is = λ more.
-    let within = is more in
-    let same = drawn_next (outcome line now limit (drawn ++ more)) in
-    omega arith
-
--- the commands are those of the line, if none inserts a row of a plugin that isn't run
-pub accepts : (line : List ℕ) (now limit : ℕ) (drawn : List (List ℕ)) (commands : List Command) (result : Result (List Command) DeclareError)
-    → AreInsertions limit commands
-    → ((more : List (List ℕ)) → Answers (Ok commands) (outcome line now limit (drawn ++ more)) (length drawn))
-    → IfOk result (λ same. (same ≡ commands) × (has_unbuilt commands ≡ false))
-    → IfErr result (λ e. RefusesWith not_built e × (has_unbuilt commands ≡ true))
-    → AnswersLine result (run_outcome line now limit) drawn
-unfolding run_outcome
-accepts line now limit drawn commands (Ok same) are is ok err = λ more.
-    let none = built_are commands are.inserts ∙ ap not ok.1 in
-    ap (next with_built_plugins) (is more) ∙ rw none (ap (λ cs. Ok (accepted_after cs (length drawn))) (sym ok.0))
-accepts line now limit drawn commands (Err (error.Refused response)) are is ok err = λ more.
-    let some = built_are commands are.inserts ∙ ap not err.1 in
-    ap (next with_built_plugins) (is more) ∙ rw some (ap (λ r. Err (record { response = r; drawn = length drawn })) (sym err.0))
-accepts line now limit drawn commands (Err error.NoMemory) are is ok err = λ more.
-    let same = drawn_next (outcome line now limit (drawn ++ more)) in
-    let all = ap drawn_for (is more) in
     omega arith
 
 -- ---- what the call is answered

@@ -12,15 +12,16 @@ use Rattle.kg_declare.specs.Steps.{accepted_after}
 use Rattle.kg_row_values.specs.Rows.{rows_after}
 use Rattle.kg_row_values.specs.declared.command.Command.{Command}
 use Rattle.kg_plain.specs.Answered.{AnswersAll, AnswersFront}
-use Rattle.kg_plain.specs.DryReply.{GatewayRows, reply_to}
+use Rattle.kg_limit.specs.declared.hit.Hit.{Hit}
+use Rattle.kg_plain.specs.DryReply.{GatewayRows, counted, reply_to}
 use Rattle.kg_plain.specs.Fronts.{IsFront}
-use Rattle.kg_plain.specs.Replies.{EndsSo, GoOn, StopsIn, last_text, local_address, most_requests, texts}
+use Rattle.kg_plain.specs.Replies.{EndsSo, GoOn, StopsIn, hits_of, last_text, local_address, most_requests, texts}
 use Rattle.kg_plain.specs.declared.answers.End.{End}
 use Rattle.kg_plain.specs.declared.answers.End.TheVariants.{Closed, Asked, Spent, Bad, Cut}
 use Rattle.kg_plain.proofs.AnsweredLemmas.{each-push, texts-push}
 use Rattle.kg_plain.proofs.EndLemmas.{OnlyLastMayAsk, all_on, front_of_whole, is_last, one_end, same_whole}
 use Rattle.kg_lone.specs.DryRun.{IsCutShort, IsWhole}
-use Rattle.kg_lone.specs.DryText.{IsCutText, IsDryText, IsEndOf, StopsAtFirst, StopsBehind, WritesFront, WritesText, exit_of, most_rows, status_of}
+use Rattle.kg_lone.specs.DryText.{IsCutText, IsDryText, IsEndOf, StopsAtFirst, StopsBehind, WritesFront, WritesText, exit_of, most_rows, rows_of, status_of}
 use Rattle.kg_lone.specs.FirstCommands.{AnswersFirst, BeginsRefusal, Decides, DrawsWithin, FirstLineCall, IsFirstStatus, StopsFirst, WritesRefusal, first_outcome, refusal_line}
 use Rattle.kg_lone.specs.FirstLine.{line_of, after_line}
 use Rattle.kg_lone.specs.InsertedRows.{gateway_rows}
@@ -42,23 +43,32 @@ at_time : (line : List ℕ) (now time : ℕ) (drawn : List (List ℕ)) (answer :
 at_time line now time drawn answer same is = subst (λ n. first_outcome line n most_rows drawn ≡ answer) same is
 
 -- the replies to some requests and then to others
-texts-append : (rows : GatewayRows) (answered : ℕ) (times later : List ℕ) (ms zs : List Message) → length times ≡ length ms
-    → texts rows answered (times ++ later) (ms ++ zs) ≡ texts rows answered times ms ++ texts rows (answered + length ms) later zs
-texts-append rows answered [] later [] zs each = ap (λ n. texts rows n later zs) (let e : answered ≡ answered + 0 = omega arith in e)
-texts-append rows answered [] later (m ∷ ms) zs each = absurd (omega arith)
-texts-append rows answered (time ∷ times) later [] zs each = absurd (omega arith)
-texts-append rows answered (time ∷ times) later (m ∷ ms) zs each =
-    let first = reply_to rows time (answered + 1 == most_requests) (request_of local_address m) in
+texts-append : (rows : GatewayRows) (hits : List Hit) (answered : ℕ) (times later : List ℕ) (ms zs : List Message) → length times ≡ length ms
+    → texts rows hits answered (times ++ later) (ms ++ zs)
+    ≡ texts rows hits answered times ms ++ texts rows (hits ++ hits_of rows times ms) (answered + length ms) later zs
+texts-append rows hits answered [] later [] zs each =
+    ap (λ past. texts rows past answered later zs) (sym (append-nil hits))
+    ∙ ap (λ n. texts rows (hits ++ []) n later zs) (let e : answered ≡ answered + 0 = omega arith in e)
+texts-append rows hits answered [] later (m ∷ ms) zs each = absurd (omega arith)
+texts-append rows hits answered (time ∷ times) later [] zs each = absurd (omega arith)
+texts-append rows hits answered (time ∷ times) later (m ∷ ms) zs each =
+    let first = reply_to rows hits time (answered + 1 == most_requests) (request_of local_address m) in
+    let own = counted rows time (request_of local_address m) in
+    let past = hits_of rows times ms in
+    let front = texts rows (hits ++ own) (answered + 1) times ms in
     ap (λ t. first ++ t)
-    (texts-append rows (answered + 1) times later ms zs (omega arith)
-    ∙ ap (λ n. texts rows (answered + 1) times ms ++ texts rows n later zs) (let e : answered + 1 + length ms ≡ answered + length (m ∷ ms) = omega arith in e))
-    ∙ sym (append_assoc first (texts rows (answered + 1) times ms) (texts rows (answered + length (m ∷ ms)) later zs))
+    (texts-append rows (hits ++ own) (answered + 1) times later ms zs (omega arith)
+    ∙ ap (λ all. front ++ texts rows all (answered + 1 + length ms) later zs) (append_assoc hits own past)
+    ∙ ap (λ n. front ++ texts rows (hits ++ (own ++ past)) n later zs) (let e : answered + 1 + length ms ≡ answered + length (m ∷ ms) = omega arith in e))
+    ∙ sym (append_assoc first front (texts rows (hits ++ (own ++ past)) (answered + length (m ∷ ms)) later zs))
 
 -- the replies to the requests at the front are the front of the replies
 texts_front : (rows : GatewayRows) (times later all : List ℕ) (ms ns : List Message) → length times ≡ length ms → all ≡ times ++ later
-    → (zs : List Message) × (ns ≡ ms ++ zs) → IsFront (texts rows 0 times ms) (texts rows 0 all ns)
-texts_front rows times later all ms ns each same (zs, is) =
-    (texts rows (0 + length ms) later zs, ap (texts rows 0 all) is ∙ ap (λ ts. texts rows 0 ts (ms ++ zs)) same ∙ texts-append rows 0 times later ms zs each)
+    → (zs : List Message) × (ns ≡ ms ++ zs) → IsFront (texts rows [] 0 times ms) (texts rows [] 0 all ns)
+texts_front rows times later all ms ns each same (zs, is) = (
+  texts rows (hits_of rows times ms) (0 + length ms) later zs,
+  ap (texts rows [] 0 all) is ∙ ap (λ ts. texts rows [] 0 ts (ms ++ zs)) same ∙ texts-append rows [] 0 times later ms zs each,
+)
 
 -- a front of a front is one
 front_front : (a b c : List ℕ) → IsFront a b → IsFront b c → IsFront a c
@@ -125,13 +135,13 @@ pub replies_front : (Drew : List (List ℕ) → Type 0) (Read Later : List ℕ �
     (now : ℕ) (drawn : List (List ℕ)) (accepted : Accepted)
     → Decides (line_of bytes) now most_rows drawn (Ok accepted) → accepted.drawn ≡ length drawn → left ≡ Some (after_line bytes) → Drew drawn
     → ((times : List ℕ) → Later times → Read (now ∷ times))
-    → AnswersFront (gateway_rows accepted.rows) Later left before written → WritesFront Drew Read bytes before written
+    → AnswersFront (rows_of accepted) Later left before written → WritesFront Drew Read bytes before written
 replies_front Drew Read Later bytes left before written now drawn accepted declared all told drew on is =
     let ahead = seen_ahead (after_line bytes) (flat_map print_message is.messages) left is.ahead told is.whole in
     record {
       drawn = drawn;
       times = now ∷ is.earlier ++ is.since;
-      front = texts (gateway_rows accepted.rows) 0 is.earlier is.messages ++ is.part;
+      front = texts (rows_of accepted) [] 0 is.earlier is.messages ++ is.part;
       drew = drew;
       read = on (is.earlier ++ is.since) is.read;
       meant = inr (record {
@@ -188,11 +198,11 @@ pub replies_written : (Drew : List (List ℕ) → Type 0) (Read Later : List ℕ
     → Decides (line_of bytes) now most_rows drawn (Ok accepted) → accepted.drawn ≡ length drawn
     → left ≡ Some (after_line bytes) → Drew drawn
     → ((times : List ℕ) → Later times → Read (now ∷ times))
-    → AnswersAll (gateway_rows accepted.rows) Later left before written end → WritesText Drew Read bytes before written (status_of end)
+    → AnswersAll (rows_of accepted) Later left before written end → WritesText Drew Read bytes before written (status_of end)
 replies_written Drew Read Later bytes left before written now drawn accepted end declared all told drew on is =
     let done = is.answered in
     let ahead = seen_ahead (after_line bytes) (flat_map print_message is.messages) left is.ahead told done.whole in
-    let replies = texts (gateway_rows accepted.rows) 0 done.times is.messages in
+    let replies = texts (rows_of accepted) [] 0 done.times is.messages in
     record {
       drawn = drawn;
       times = now ∷ done.times;
@@ -267,11 +277,11 @@ alike bytes drawn times status text code other (inl a) (inl b) =
     let rows : a.accepted ≡ b.accepted = one_outcome (at_time (line_of bytes) a.now b.now drawn (Ok a.accepted) time.0 a.declared) b.declared in
     let same = same_whole (after_line bytes) a.messages b.messages a.rest b.rest a.end b.end a.reading b.reading a.most b.most a.ends b.ends in
     let ends = subst (EndsSo b.end a.messages) (sym same.1) (subst (λ ms. EndsSo b.end ms b.rest) (sym same.0) b.ends) in
-    same_ends (texts (gateway_rows a.accepted.rows) 0 a.later a.messages) a.end b.end status code text other a.ending b.ending a.written
+    same_ends (texts (rows_of a.accepted) [] 0 a.later a.messages) a.end b.end status code text other a.ending b.ending a.written
     (b.written
-    ∙ ap (λ (p : Accepted). texts (gateway_rows p.rows) 0 b.later b.messages ++ last_text b.end) (sym rows)
-    ∙ ap (λ ms. texts (gateway_rows a.accepted.rows) 0 b.later ms ++ last_text b.end) (sym same.0)
-    ∙ ap (λ ts. texts (gateway_rows a.accepted.rows) 0 ts a.messages ++ last_text b.end) (sym time.1))
+    ∙ ap (λ (p : Accepted). texts (rows_of p) [] 0 b.later b.messages ++ last_text b.end) (sym rows)
+    ∙ ap (λ ms. texts (rows_of a.accepted) [] 0 b.later ms ++ last_text b.end) (sym same.0)
+    ∙ ap (λ ts. texts (rows_of a.accepted) [] 0 ts a.messages ++ last_text b.end) (sym time.1))
     (one_end a.end b.end a.messages a.rest a.ends ends)
 
 -- ---- a run that was cut short, and one that goes on
@@ -323,17 +333,17 @@ no_more times (t ∷ later) n all some = absurd (omega (arith, length-append tim
 
 -- in the replies
 replies_go_on : (bytes : List ℕ) (rows : GatewayRows) (ms ns : List Message) (rest left part front text : List ℕ) (end : End) (earlier since more times : List ℕ)
-    → IsReading bytes ms rest → GoOn ms → length ms < most_requests → length earlier ≡ length ms → StopsIn rows (length ms) since rest part
+    → IsReading bytes ms rest → GoOn ms → length ms < most_requests → length earlier ≡ length ms → StopsIn rows (hits_of rows earlier ms) (length ms) since rest part
     → IsReading bytes ns left → length ns ≤ most_requests → EndsSo end ns left → length times ≡ length ns → times ≡ (earlier ++ since) ++ more
-    → front ≡ texts rows 0 earlier ms ++ part → text ≡ texts rows 0 times ns ++ last_text end → IsFront front text
+    → front ≡ texts rows [] 0 earlier ms ++ part → text ≡ texts rows [] 0 times ns ++ last_text end → IsFront front text
 replies_go_on bytes rows ms ns rest left part front text end earlier since more times mine on few one_each (inl (once, none)) yours most ends also same wrote writes =
     let all = front_of_whole bytes ms ns rest left mine yours (omega arith) (all_on ms on) (is_last end ns left ends) in
     let before = reading_front bytes ms ns rest left mine yours all in
     let read : times ≡ earlier ++ more = same ∙ ap (λ ts. (earlier ++ ts) ++ more) once ∙ ap (λ ts. ts ++ more) (append-nil earlier) in
     let replies = texts_front rows earlier more times ms ns one_each read (before.0, before.1) in
-    let whole = texts rows 0 earlier ms in
-    front_behind whole (texts rows 0 times ns) part front text (last_text end) wrote writes
-    (front_within (whole ++ part) whole (texts rows 0 times ns) (last_text end)
+    let whole = texts rows [] 0 earlier ms in
+    front_behind whole (texts rows [] 0 times ns) part front text (last_text end) wrote writes
+    (front_within (whole ++ part) whole (texts rows [] 0 times ns) (last_text end)
     ([], sym (append-nil whole) ∙ ap (λ t. whole ++ t) (sym none) ∙ sym (append-nil (whole ++ part))) replies)
 replies_go_on bytes rows ms ns rest left part front text end earlier since more times mine on few one_each (inr (inl (time, once, is))) yours most ends also same wrote writes =
     let longer = one_more bytes ms is.next rest is.behind mine is.is is.stands in
@@ -344,11 +354,11 @@ replies_go_on bytes rows ms ns rest left part front text end earlier since more 
     let read : times ≡ (earlier ++ time ∷ []) ++ more = same ∙ ap (λ ts. (earlier ++ ts) ++ more) once in
     let each : length (earlier ++ time ∷ []) ≡ length (ms ++ is.next ∷ []) = simp length-append (omega arith) in
     let replies = texts_front rows (earlier ++ time ∷ []) more times (ms ++ is.next ∷ []) ns each read (before.0, before.1) in
-    let whole = texts rows 0 earlier ms in
-    front_behind whole (texts rows 0 times ns) part front text (last_text end) wrote writes
-    (front_within (whole ++ part) (texts rows 0 (earlier ++ time ∷ []) (ms ++ is.next ∷ [])) (texts rows 0 times ns) (last_text end) (
+    let whole = texts rows [] 0 earlier ms in
+    front_behind whole (texts rows [] 0 times ns) part front text (last_text end) wrote writes
+    (front_within (whole ++ part) (texts rows [] 0 (earlier ++ time ∷ []) (ms ++ is.next ∷ [])) (texts rows [] 0 times ns) (last_text end) (
       is.begins.0,
-      texts-push rows 0 (length ms) earlier ms time is.next (omega arith) one_each
+      texts-push rows [] 0 (length ms) earlier ms time is.next (omega arith) one_each
           ∙ ap (λ t. whole ++ t) is.begins.1
           ∙ sym (append_assoc whole part is.begins.0),
     ) replies)
@@ -361,11 +371,11 @@ replies_go_on bytes rows ms ns rest left part front text end earlier since more 
     let read : times ≡ earlier ++ more = same ∙ ap (λ ts. (earlier ++ ts) ++ more) once ∙ ap (λ ts. ts ++ more) (append-nil earlier) in
     let count : length (earlier ++ more) ≡ length ms = ap length (sym read) ∙ also ∙ ap length (sym one.0) in
     let these : times ≡ earlier = read ∙ no_more earlier more (length ms) count one_each in
-    let whole = texts rows 0 earlier ms in
-    front_behind whole (texts rows 0 times ns) part front text (last_text end) wrote writes (
+    let whole = texts rows [] 0 earlier ms in
+    front_behind whole (texts rows [] 0 times ns) part front text (last_text end) wrote writes (
       begins.0,
-      ap (λ xs. texts rows 0 times xs ++ last_text end) (sym one.0)
-          ∙ ap (λ ts. texts rows 0 ts ms ++ last_text end) these
+      ap (λ xs. texts rows [] 0 times xs ++ last_text end) (sym one.0)
+          ∙ ap (λ ts. texts rows [] 0 ts ms ++ last_text end) these
           ∙ ap (λ e. whole ++ last_text e) closes
           ∙ ap (λ t. whole ++ t) begins.1
           ∙ sym (append_assoc whole part begins.0),
@@ -381,9 +391,9 @@ behind_goes_on bytes drawn more times later status front text s (inl a) =
     let time = first_time s.now a.now ((s.earlier ++ s.since) ++ later) a.later (sym (ap (λ ts. ts ++ later) s.clock) ∙ a.clock) in
     let same : s.accepted ≡ a.accepted =
     one_outcome (at_time (line_of bytes) s.now a.now (drawn ++ more) (Ok s.accepted) time.0 (s.declared more)) a.declared in
-    replies_go_on (after_line bytes) (gateway_rows s.accepted.rows) s.messages a.messages s.rest a.rest s.part front text a.end s.earlier s.since later a.later
+    replies_go_on (after_line bytes) (rows_of s.accepted) s.messages a.messages s.rest a.rest s.part front text a.end s.earlier s.since later a.later
     s.reading s.on s.few s.one_each s.stops a.reading a.most a.ends a.one_each (sym time.1) s.written
-    (a.written ∙ ap (λ (p : Accepted). texts (gateway_rows p.rows) 0 a.later a.messages ++ last_text a.end) (sym same))
+    (a.written ∙ ap (λ (p : Accepted). texts (rows_of p) [] 0 a.later a.messages ++ last_text a.end) (sym same))
 
 -- what it wrote is a front of what the other writes
 pub goes_on : (bytes : List ℕ) (drawn more : List (List ℕ)) (times later : List ℕ) (status : ℕ) (front text : List ℕ)
@@ -500,28 +510,28 @@ pub answered_text : (Drew : List (List ℕ) → Type 0) (Read Later : List ℕ �
     (now : ℕ) (drawn : List (List ℕ)) (commands : List Command) (result : Result End ℕ)
     → AnswersFirst (first_call now bytes left before middle drawn) (Ok commands) → middle ≡ before → Drew drawn
     → ((times : List ℕ) → Later times → Read (now ∷ times))
-    → IfOk result (AnswersAll (gateway_rows (rows_after commands)) Later left middle written)
+    → IfOk result (AnswersAll (gateway_rows (rows_after commands) (length commands)) Later left middle written)
     → IfOk result (λ end. WritesText Drew Read bytes before written (status_of end))
 answered_text Drew Read Later bytes left before middle written now drawn commands (Err status) gives same drew on ended = tt
 answered_text Drew Read Later bytes left before middle written now drawn commands (Ok end) gives same drew on ended =
     replies_written Drew Read Later bytes left before written now drawn (accepted_after commands (length drawn)) end
     gives.declared refl gives.after drew on
-    (subst (λ w. AnswersAll (gateway_rows (rows_after commands)) Later left w written end) same ended)
+    (subst (λ w. AnswersAll (gateway_rows (rows_after commands) (length commands)) Later left w written end) same ended)
 
 pub answered_end : (Later : List ℕ → Type 0) (bytes : List ℕ) (left before middle written : Option (List ℕ))
     (now : ℕ) (drawn : List (List ℕ)) (commands : List Command) (result : Result End ℕ)
     → AnswersFirst (first_call now bytes left before middle drawn) (Ok commands)
-    → IfOk result (AnswersAll (gateway_rows (rows_after commands)) Later left middle written) → IfOk result (IsEndOf (after_line bytes))
+    → IfOk result (AnswersAll (gateway_rows (rows_after commands) (length commands)) Later left middle written) → IfOk result (IsEndOf (after_line bytes))
 answered_end Later bytes left before middle written now drawn commands (Err status) gives ended = tt
 answered_end Later bytes left before middle written now drawn commands (Ok end) gives ended =
-    end_of Later (after_line bytes) left middle written (gateway_rows (rows_after commands)) end gives.after ended
+    end_of Later (after_line bytes) left middle written (gateway_rows (rows_after commands) (length commands)) end gives.after ended
 
 pub answered_front : (Drew : List (List ℕ) → Type 0) (Read Later : List ℕ → Type 0) (bytes : List ℕ) (left before middle written : Option (List ℕ))
     (now : ℕ) (drawn : List (List ℕ)) (commands : List Command)
     → AnswersFirst (first_call now bytes left before middle drawn) (Ok commands) → middle ≡ before → Drew drawn
     → ((times : List ℕ) → Later times → Read (now ∷ times))
-    → AnswersFront (gateway_rows (rows_after commands)) Later left middle written → WritesFront Drew Read bytes before written
+    → AnswersFront (gateway_rows (rows_after commands) (length commands)) Later left middle written → WritesFront Drew Read bytes before written
 answered_front Drew Read Later bytes left before middle written now drawn commands gives same drew on front =
     replies_front Drew Read Later bytes left before written now drawn (accepted_after commands (length drawn))
     gives.declared refl gives.after drew on
-    (subst (λ w. AnswersFront (gateway_rows (rows_after commands)) Later left w written) same front)
+    (subst (λ w. AnswersFront (gateway_rows (rows_after commands) (length commands)) Later left w written) same front)

@@ -1,21 +1,21 @@
 -- The rows after commands that insert are those that they insert.
-use Rattle.std.proofs.Common.{◌≡◌, Bool, true, false, not, ◌&&◌, ◌||◌, List, [], ◌∷◌, ◌++◌, refl, sym, ap, subst, ◌∙◌, All}
-use Rattle.std.specs.List.{fold, list_all}
+use Rattle.std.proofs.Common.{◌≡◌, ℕ, suc, ◌+◌, ◌<◌, Bool, true, false, not, ◌&&◌, IsTrue, List, [], ◌∷◌, ◌++◌, drop, get_or, length, refl, sym, ap, subst, ◌∙◌, All, drop-cons, arith}
+use Rattle.std.specs.List.{fold}
 use Rattle.std.proofs.lemmas.List.Elements.{All-head, All-tail}
-use Rattle.std.proofs.lemmas.List.Folds.{list_all-append}
-use Rattle.std.proofs.lemmas.List.Sums.{AllPass-from_list_all, fold-append}
-use Rattle.kg_row_types.specs.RowChanges.{inserted}
+use Rattle.std.proofs.lemmas.List.Sums.{fold-append}
+use Rattle.kg_row_types.specs.Entities.{id_of_row, kind_of}
+use Rattle.kg_row_types.specs.RowChanges.{has_row, inserted}
 use Rattle.kg_row_types.specs.RowLists.{RowLists, no_rows}
 use Rattle.kg_row_types.specs.declared.entity.Entity.{Entity}
 use Rattle.kg_row_types.specs.declared.entity.Entity.TheVariants as row
-use Rattle.kg_row_types.specs.declared.plugin.PluginRow.{PluginRow}
 use Rattle.kg_declare.specs.Histories.{InsertsValidRow}
-use Rattle.kg_row_values.specs.Rows.{rows_after, rows_from}
+use Rattle.kg_declare.specs.Inserting.{InsertsNewRow}
+use Rattle.kg_row_changes.specs.ValidCommands.{AreAllowed}
+use Rattle.kg_row_values.specs.Rows.{changed, rows_after, rows_from}
 use Rattle.kg_row_values.specs.declared.command.Command.{Command}
 use Rattle.kg_row_values.specs.declared.command.Command.TheVariants.{Insert, Update, Delete}
-use Rattle.kg_course.specs.Phases.{runs}
-use Rattle.kg_course.specs.Walks.{AreBuilt}
-use Rattle.kg_lone.specs.InsertedRows.{gateway_over, gateway_rows, has_unbuilt, listed_after, listed_in, no_lists, with_row}
+use Rattle.kg_lone.specs.DryText.{most_rows}
+use Rattle.kg_lone.specs.InsertedRows.{gateway_over, gateway_rows, listed_after, listed_in, no_lists, with_row}
 use Rattle.kg_lone.specs.declared.rows.Listing.{Listing}
 
 -- ---- the three lists
@@ -49,50 +49,6 @@ listed_are commands all = listed_from no_rows commands all
 pub listed_push : (commands : List Command) (command : Command) → listed_in (commands ++ command ∷ []) ≡ listed_after (listed_in commands) command
 listed_push commands command = fold-append listed_after no_lists commands (command ∷ [])
 
--- ---- plugins that aren't run
-
-abbrev built : PluginRow → Bool
-built row = runs row.config
-
-and_true : (b : Bool) → b ≡ (b && true)
-and_true true = refl
-and_true false = refl
-
--- one plugin more
-one_plugin : (before runs later : Bool) → ((before && (runs && true)) && not later) ≡ (before && not (not runs || later))
-one_plugin true true later = refl
-one_plugin true false later = refl
-one_plugin false runs later = refl
-
-all_built : (before : RowLists) (commands : List Command) → All InsertsValidRow commands
-    → list_all built (rows_from before commands).plugins ≡ (list_all built before.plugins && not (has_unbuilt commands))
-all_built before [] all = and_true (list_all built before.plugins)
-all_built before (Insert (row.Plugin new) ∷ commands) all =
-    all_built (inserted (row.Plugin new) before) commands (All-tail InsertsValidRow (Insert (row.Plugin new)) commands all)
-    ∙ ap (λ b. b && not (has_unbuilt commands)) (list_all-append built before.plugins (new ∷ []))
-    ∙ one_plugin (list_all built before.plugins) (runs new.config) (has_unbuilt commands)
-all_built before (Insert (row.Service new) ∷ commands) all =
-    all_built (inserted (row.Service new) before) commands (All-tail InsertsValidRow (Insert (row.Service new)) commands all)
-all_built before (Insert (row.Route new) ∷ commands) all =
-    all_built (inserted (row.Route new) before) commands (All-tail InsertsValidRow (Insert (row.Route new)) commands all)
-all_built before (Insert (row.Consumer new) ∷ commands) all =
-    all_built (inserted (row.Consumer new) before) commands (All-tail InsertsValidRow (Insert (row.Consumer new)) commands all)
-all_built before (Insert (row.KeyCred new) ∷ commands) all =
-    all_built (inserted (row.KeyCred new) before) commands (All-tail InsertsValidRow (Insert (row.KeyCred new)) commands all)
-all_built before (Insert (row.BasicCred new) ∷ commands) all =
-    all_built (inserted (row.BasicCred new) before) commands (All-tail InsertsValidRow (Insert (row.BasicCred new)) commands all)
-all_built before (Insert (row.Acl new) ∷ commands) all =
-    all_built (inserted (row.Acl new) before) commands (All-tail InsertsValidRow (Insert (row.Acl new)) commands all)
-all_built before (Update new ∷ commands) all = absurd (All-head InsertsValidRow (Update new) commands all)
-all_built before (Delete kind id ∷ commands) all = absurd (All-head InsertsValidRow (Delete kind id) commands all)
-
-pub built_are : (commands : List Command) → All InsertsValidRow commands
-    → list_all (λ (row : PluginRow). runs row.config) (rows_after commands).plugins ≡ not (has_unbuilt commands)
-built_are commands all = all_built no_rows commands all
-
-pub are_built : (commands : List Command) → All InsertsValidRow commands → has_unbuilt commands ≡ false → AreBuilt (rows_after commands).plugins
-are_built commands all none = AllPass-from_list_all built (rows_after commands).plugins (built_are commands all ∙ ap not none)
-
 -- ---- the gateway
 
 -- what holds of the lists of all rows holds of those that the commands insert
@@ -100,7 +56,54 @@ pub holds_of : (P : Listing → Type 0) (commands : List Command) (listing : Lis
     → P (lists_of (rows_after commands)) → P listing
 holds_of P commands listing all is holds = subst P (sym (is ∙ listed_are commands all)) holds
 
--- a gateway over the rows that the commands insert is one over the rows after them
-pub rows_are : (commands : List Command) (listing : Listing) → All InsertsValidRow commands → listing ≡ listed_in commands
-    → gateway_over listing ≡ gateway_rows (rows_after commands)
-rows_are commands listing all is = ap gateway_over (is ∙ listed_are commands all)
+-- a gateway over the lists that the commands insert is one over the rows after them
+pub rows_are : (commands : List Command) (listing : Listing) (rows : RowLists) (count : ℕ) → All InsertsValidRow commands → listing ≡ listed_in commands
+    → rows ≡ rows_after commands → gateway_over listing rows count ≡ gateway_rows rows count
+rows_are commands listing rows count all is declared =
+    ap (λ lists. gateway_over lists rows count) (is ∙ listed_are commands all ∙ ap lists_of (sym declared))
+
+-- ---- one row after another
+
+-- the rows so far, from which the commands that are left come to the rows after all
+pub record IsOnWay (commands : List Command) (at : ℕ) (rows : RowLists) : Type 0 where
+  pub rest : rows_from rows (drop at commands) ≡ rows_after commands
+  pub inserts : All InsertsValidRow (drop at commands)
+  pub allowed : AreAllowed rows (drop at commands) most_rows
+
+-- the next command
+split_at : (commands : List Command) (at : ℕ) (command : Command) → at < length commands → command ≡ get_or commands at command
+    → drop at commands ≡ command ∷ drop (at + 1) commands
+split_at commands at command within is =
+    drop-cons commands at command within
+    ∙ ap (λ first. first ∷ drop (suc at) commands) (sym is)
+    ∙ ap (λ n. command ∷ drop n commands) (let e : suc at ≡ at + 1 = omega arith in e)
+
+-- one row more
+pub one_more : (commands : List Command) (at : ℕ) (rows now : RowLists) (command : Command) → at < length commands → command ≡ get_or commands at command
+    → now ≡ changed command rows → IsOnWay commands at rows → IsOnWay commands (at + 1) now
+one_more commands at rows now command within is makes before =
+    let later = drop (at + 1) commands in
+    let split = split_at commands at command within is in
+    record {
+      rest = ap (λ r. rows_from r later) makes ∙ ap (rows_from rows) (sym split) ∙ before.rest;
+      inserts = All-tail InsertsValidRow command later (subst (All InsertsValidRow) split before.inserts);
+      allowed = subst (λ r. AreAllowed r later most_rows) (sym makes) (subst (λ cs. AreAllowed rows cs most_rows) split before.allowed).2;
+    }
+
+-- what is inserted next has a new id
+inserts_new : (limit : ℕ) (rows : RowLists) (command : Command) (later : List Command) → All InsertsValidRow (command ∷ later)
+    → AreAllowed rows (command ∷ later) limit → InsertsNewRow rows command
+inserts_new limit rows (Insert new) later all allowed = is_new (has_row (kind_of new) (id_of_row new) rows) _ _ _ allowed.1
+  where
+    is_new : (has named unique room : Bool) → IsTrue (((not has && named) && unique) && room) → has ≡ false
+    is_new false named unique room is = refl
+    is_new true named unique room is = absurd (cc)
+inserts_new limit rows (Update new) later all allowed = absurd (All-head InsertsValidRow (Update new) later all)
+inserts_new limit rows (Delete kind id) later all allowed = absurd (All-head InsertsValidRow (Delete kind id) later all)
+
+pub inserts_next : (commands : List Command) (at : ℕ) (rows : RowLists) (command : Command) → at < length commands → command ≡ get_or commands at command
+    → IsOnWay commands at rows → InsertsNewRow rows command
+inserts_next commands at rows command within is before =
+    let split = split_at commands at command within is in
+    inserts_new most_rows rows command (drop (at + 1) commands) (subst (All InsertsValidRow) split before.inserts)
+    (subst (λ cs. AreAllowed rows cs most_rows) split before.allowed)

@@ -6,7 +6,8 @@ use Rattle.kg_lone.specs.FirstCommands.{BeginsRefusal, Decides, DrawsWithin, fir
 use Rattle.kg_lone.specs.FirstLine.{line_of, after_line}
 use Rattle.kg_lone.specs.InsertedRows.{gateway_rows}
 use Rattle.kg_outside.specs.Moves.{with_end}
-use Rattle.kg_plain.specs.Replies.{EndsSo, GoOn, StopsIn, last_text, most_requests, texts}
+use Rattle.kg_plain.specs.DryReply.{GatewayRows}
+use Rattle.kg_plain.specs.Replies.{EndsSo, GoOn, StopsIn, hits_of, last_text, most_requests, texts}
 use Rattle.kg_plain.specs.declared.answers.End.{End}
 use Rattle.kg_plain.specs.declared.answers.End.TheVariants.{Closed, Asked, Spent, Bad, Cut}
 use Rattle.kg_wire.specs.Messages.{Message, IsReading}
@@ -28,6 +29,10 @@ abbrev pub exit_of : Result End ℕ → ℕ
 exit_of (Ok end) = status_of end
 exit_of (Err status) = status
 
+-- the rows of an accepted declaration, as a gateway answers by them
+abbrev pub rows_of : Accepted → GatewayRows
+rows_of accepted = gateway_rows accepted.rows (length accepted.commands)
+
 -- the declaration was accepted, and the requests after it were answered as far as they go. The clock is
 -- read for the declaration and then for each of these requests
 pub record IsAnsweredRun (bytes : List ℕ) (drawn : List (List ℕ)) (times : List ℕ) (status : ℕ) (text : List ℕ) : Type 0 where
@@ -44,7 +49,7 @@ pub record IsAnsweredRun (bytes : List ℕ) (drawn : List (List ℕ)) (times : L
   pub end : End
   pub ends : EndsSo end messages rest
   pub one_each : length later ≡ length messages
-  pub written : text ≡ texts (gateway_rows accepted.rows) 0 later messages ++ last_text end
+  pub written : text ≡ texts (rows_of accepted) [] 0 later messages ++ last_text end
   pub ending : status ≡ status_of end
 
 -- the first line is refused
@@ -91,8 +96,8 @@ pub record StopsBehind (bytes : List ℕ) (drawn : List (List ℕ)) (times : Lis
   pub few : length messages < most_requests
   pub one_each : length earlier ≡ length messages
   pub part : List ℕ
-  pub stops : StopsIn (gateway_rows accepted.rows) (length messages) since rest part
-  pub written : front ≡ texts (gateway_rows accepted.rows) 0 earlier messages ++ part
+  pub stops : StopsIn (rows_of accepted) (hits_of (rows_of accepted) earlier messages) (length messages) since rest part
+  pub written : front ≡ texts (rows_of accepted) [] 0 earlier messages ++ part
 
 -- over these bytes, with these ids drawn and these times read, a run that was cut short may have written this
 abbrev pub IsCutText : List ℕ → List (List ℕ) → List ℕ → List ℕ → Type 0

@@ -1,9 +1,7 @@
 -- What a first line gives: the commands of its declaration, or its refusal (this project's own:
 -- docs/BEHAVIOUR.md, "The dry run").
 use Rattle.std.specs.Prelude.{◌≡◌, ℕ, ◌≤◌, nat_lt, ◌⊎◌, List, [], ◌++◌, length, codes, Option, Some, Result, Ok, Err, if◌then◌else◌}
-use Rattle.std.specs.List.{list_all}
-use Rattle.kg_row_types.specs.declared.plugin.PluginRow.{PluginRow}
-use Rattle.kg_declare.specs.Outcome.{Accepted, Refused, drawn_for, next, outcome}
+use Rattle.kg_declare.specs.Outcome.{Accepted, Refused, drawn_for, outcome}
 use Rattle.kg_declare.specs.Steps.{accepted_after}
 use Rattle.kg_lone.specs.FirstLine.{line_of, after_line}
 use Rattle.kg_message.specs.GatewayMessage.{gateway_message}
@@ -11,40 +9,23 @@ use Rattle.kg_message.specs.declared.response.Response.{Response}
 use Rattle.kg_outside.specs.Moves.{with_end}
 use Rattle.kg_plain.specs.Fronts.{IsFront}
 use Rattle.kg_row_values.specs.declared.command.Command.{Command}
-use Rattle.kg_course.specs.Phases.{runs}
 
 -- how many bytes the first line may have, its line feed left aside
 abbrev pub most_line : ℕ
 most_line = 67108864
 
--- ---- refusals of this crate's own
-
 -- a longer line is no declaration
 unfoldable pub bad_line : Response
 bad_line = gateway_message 400 (codes "Bad line")
 
--- some plugins aren't run yet
-unfoldable pub not_built : Response
-not_built = gateway_message 400 (codes "Not built yet")
-
--- a declaration that is accepted is refused all the same where it has a row of such a plugin
-abbrev pub with_built_plugins : Accepted → Result Accepted Refused
-with_built_plugins accepted =
-    if list_all (λ (row : PluginRow). runs row.config) accepted.rows.plugins then Ok accepted
-    else Err (record { response = not_built; drawn = accepted.drawn })
-
 -- ---- the line
 
--- what becomes of a line within the limit, at the time `now`, in milliseconds, with at most `limit` rows of
--- a kind, when these ids are drawn
-unfoldable pub run_outcome : List ℕ → ℕ → ℕ → List (List ℕ) → Result Accepted Refused
-run_outcome line now limit draws = next with_built_plugins (outcome line now limit draws)
-
--- what becomes of the first line
+-- what becomes of the first line, at the time `now`, in milliseconds, with at most `limit` rows of a kind, when these
+-- ids are drawn
 unfoldable pub first_outcome : List ℕ → ℕ → ℕ → List (List ℕ) → Result Accepted Refused
 first_outcome line now limit draws =
     if nat_lt most_line (length line) then Err (record { response = bad_line; drawn = 0 })
-    else run_outcome line now limit draws
+    else outcome line now limit draws
 
 -- exactly these ids are drawn for it, and they decide what becomes of it, whatever is drawn after them
 abbrev pub Decides : List ℕ → ℕ → ℕ → List (List ℕ) → Result Accepted Refused → Type 0

@@ -1,13 +1,13 @@
 -- The rows that commands insert, as a gateway answers by them.
-use Rattle.std.specs.Prelude.{Bool, false, not, List, [], ◌∷◌, ◌++◌, fold}
-use Rattle.std.specs.List.{list_any}
+use Rattle.std.specs.Prelude.{◌≡◌, ℕ, List, [], ◌∷◌, ◌++◌, fold}
 use Rattle.kg_row_types.specs.RowLists.{RowLists}
 use Rattle.kg_row_types.specs.declared.entity.Entity.{Entity}
 use Rattle.kg_row_types.specs.declared.entity.Entity.TheVariants as row
 use Rattle.kg_row_values.specs.declared.command.Command.{Command}
 use Rattle.kg_row_values.specs.declared.command.Command.TheVariants as command
+use Rattle.kg_router.specs.RouterRows.{RouterRows}
+use Rattle.kg_plugin_table.specs.PluginRows.{PluginRows}
 use Rattle.kg_plain.specs.DryReply.{GatewayRows}
-use Rattle.kg_course.specs.Phases.{runs}
 use Rattle.kg_lone.specs.declared.rows.Listing.{Listing}
 
 -- the row behind those of its kind, if it is a service, a route or a plugin
@@ -28,21 +28,21 @@ no_lists = record { services = []; routes = []; plugins = [] }
 abbrev pub listed_in : List Command → Listing
 listed_in commands = fold listed_after no_lists commands
 
--- a command that inserts a row of a plugin that isn't run
-abbrev pub is_unbuilt : Command → Bool
-is_unbuilt (command.Insert (row.Plugin plugin)) = not (runs plugin.config)
-is_unbuilt _ = false
+-- the router and the plugins of these rows
+abbrev pub AreGenerations : Listing → RouterRows → PluginRows → Type 0
+AreGenerations listing router plugins =
+    (router ≡ record { rev = 0; services = listing.services; routes = listing.routes })
+    × (plugins ≡ record { rev = 0; rows = listing.plugins })
 
-abbrev pub has_unbuilt : List Command → Bool
-has_unbuilt commands = list_any is_unbuilt commands
-
--- these rows as a gateway answers by them
-abbrev pub gateway_over : Listing → GatewayRows
-gateway_over listing = record {
+-- these rows as a gateway answers by them, with those of which values are taken, after so many commands
+abbrev pub gateway_over : Listing → RowLists → ℕ → GatewayRows
+gateway_over listing declared commands = record {
   router = record { rev = 0; services = listing.services; routes = listing.routes };
   plugins = record { rev = 0; rows = listing.plugins };
+  declared = declared;
+  commands = commands;
 }
 
--- the rows of a declaration
-abbrev pub gateway_rows : RowLists → GatewayRows
-gateway_rows rows = gateway_over (record { services = rows.services; routes = rows.routes; plugins = rows.plugins })
+-- the rows of a declaration of so many commands
+abbrev pub gateway_rows : RowLists → ℕ → GatewayRows
+gateway_rows rows commands = gateway_over (record { services = rows.services; routes = rows.routes; plugins = rows.plugins }) rows commands

@@ -1,10 +1,10 @@
 -- Machinery for proofs: what the steps of `first_commands` answer of a line that was read as far as the limit.
 use Rattle.std.specs.Prelude.{◌≡◌, ℕ, List, ◌++◌, length, Result, Ok, Err, ⊤}
-use Rattle.kg_declare.specs.Outcome.{Accepted, Refused}
+use Rattle.kg_declare.specs.Outcome.{Accepted, Refused, outcome}
 use Rattle.kg_declare.specs.Steps.{accepted_after}
 use Rattle.kg_declare.specs.declared.error.DeclareError.{DeclareError}
 use Rattle.kg_declare.specs.declared.error.DeclareError.TheVariants as error
-use Rattle.kg_lone.specs.FirstCommands.{DrawsWithin, bad_line, run_outcome}
+use Rattle.kg_lone.specs.FirstCommands.{DrawsWithin, bad_line}
 use Rattle.kg_lone.specs.declared.line.FirstLine.{FirstLine}
 use Rattle.kg_lone.specs.declared.line.FirstLine.TheVariants.{Whole, TooLong}
 use Rattle.kg_message.specs.declared.response.Response.{Response}
@@ -12,7 +12,7 @@ use Rattle.kg_row_values.specs.declared.command.Command.{Command}
 
 -- what becomes of it
 abbrev pub read_outcome : FirstLine → ℕ → ℕ → List (List ℕ) → Result Accepted Refused
-read_outcome (Whole line) now limit draws = run_outcome line.items now limit draws
+read_outcome (Whole line) now limit draws = outcome line.items now limit draws
 read_outcome TooLong now limit draws = Err (record { response = bad_line; drawn = 0 })
 
 -- a refusal with this response; want of memory is free

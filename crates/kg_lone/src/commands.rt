@@ -1,24 +1,21 @@
 //! The commands of a first line.
 
-ghost use Rattle.std.specs.Prelude.{◌≡◌, ◌⊎◌, ℕ, List as Sequence, Some, true, false, IfErr, IfOk, OnOk};
+ghost use Rattle.std.specs.Prelude.{◌≡◌, ◌⊎◌, ℕ, List as Sequence, Some, IfErr, IfOk, OnOk};
 ghost use Rattle.kg_declare.specs.Histories.{AreInsertions};
 ghost use Rattle.kg_message.specs.GatewayMessage.{gateway_message};
 ghost use Rattle.kg_outside.specs.Causes.{Rose};
 ghost use Rattle.kg_outside.specs.Moves.{with_end};
 ghost use Rattle.kg_plain.specs.Fronts.{IsFront};
-ghost use Rattle.kg_lone.specs.FirstCommands.{AnswersFirst, Drew, FirstLineCall, IsFirstStatus, not_built, refusal_line};
-ghost use Rattle.kg_lone.specs.InsertedRows.{has_unbuilt, is_unbuilt};
+ghost use Rattle.kg_lone.specs.FirstCommands.{AnswersFirst, Drew, FirstLineCall, IsFirstStatus, refusal_line};
 ghost use Rattle.kg_lone.specs.LineSteps.{AnswersLine, RefusesWith, read_outcome};
 
 use crate::line::{FirstLine, LineError, first_line};
 use crate::status::{OUT_OF_MEMORY, READ_FAULT, REFUSED, WRITE_FAULT};
 use kg_declare::{DeclareError, declare};
-use kg_entities::Entity;
 use kg_message::{Response, message};
 use kg_outside::{Failed, Ids, Sink, Source};
 use kg_rows::Command;
 use kg_text::{Bytes, List, NoMemory};
-use kg_visit::runs;
 use kg_wire::write_whole;
 use std::alloc::Global;
 
@@ -31,7 +28,7 @@ const MOST_LINE: usize = 67_108_864;
 /// `now` is the clock in milliseconds, and of each kind there are at most `limit` rows. An error is an exit
 /// status: 3 where the line is refused, and then `line 1 refused: `, the body of the refusal and a line feed
 /// are written; 4 by a fault of the source, 5 by one of the sink, and 6 for want of memory. A line of more than
-/// 67,108,864 bytes is refused, and so is an accepted declaration that has a row of a plugin which isn't run yet.
+/// 67,108,864 bytes is refused.
 pub fn first_commands<S: Source, K: Sink, I: Ids>(
     alloc: Global,
     source: &mut S,
@@ -54,7 +51,6 @@ pub fn first_commands<S: Source, K: Sink, I: Ids>(
           drawn = drawn;
         } in AnswersFirst call result) }
     ensures commands { IfOk result (AreInsertions limit) }
-    ensures built { IfOk result (λ commands. has_unbuilt commands ≡ false) }
     ensures unwritten { OnOk result (sink.new ≡ sink.old) }
 
     // A fault is told exactly where the environment failed.
@@ -85,43 +81,10 @@ fn accepted<I: Ids>(
 ) -> Result<List<Command>, DeclareError>
     ensures line { Drew I.draws ids.old ids.new (AnswersLine result (read_outcome line now limit)) }
     ensures commands { IfOk result (AreInsertions limit) }
-    ensures built { IfOk result (λ commands. has_unbuilt commands ≡ false) }
 {
     match line {
-        FirstLine::Whole(line) => match declare(alloc, line.as_slice(), ids, now, limit) {
-            Ok(commands) => with_built_plugins(alloc, commands),
-            Err(e) => Err(e),
-        },
+        FirstLine::Whole(line) => declare(alloc, line.as_slice(), ids, now, limit),
         FirstLine::TooLong => Err(refusal(alloc, b"Bad line")),
-    }
-}
-
-// The commands, if none of them inserts a row of a plugin that isn't run.
-#[tactic(auto, unfolding(crate::specs::FirstCommands::not_built))]
-fn with_built_plugins(alloc: Global, commands: List<Command>) -> Result<List<Command>, DeclareError>
-    ensures ok { IfOk result (λ same. (same ≡ commands) × (has_unbuilt commands ≡ false)) }
-    ensures built { IfOk result (λ same. has_unbuilt same ≡ false) }
-    ensures err { IfErr result (λ e. RefusesWith not_built e × (has_unbuilt commands ≡ true)) }
-{
-    if has_unbuilt(commands.as_slice()) {
-        Err(refusal(alloc, b"Not built yet"))
-    } else {
-        Ok(commands)
-    }
-}
-
-fn has_unbuilt(commands: &[Command]) -> bool
-    ensures { result ≡ has_unbuilt commands.now }
-{
-    commands.iter().any(|command| is_unbuilt(command))
-}
-
-fn is_unbuilt(command: &Command) -> bool
-    ensures { result ≡ is_unbuilt command.now }
-{
-    match command {
-        Command::Insert(Entity::Plugin(plugin)) => !runs(&plugin.config),
-        _ => false,
     }
 }
 

@@ -1,6 +1,6 @@
 //! The dry run: a declaration and requests on one stream, the replies on another.
 
-ghost use Rattle.std.specs.Prelude.{◌≡◌, ◌⊎◌, ◌↔◌, ℕ, List as Sequence, ◌∷◌, ◌++◌, false, Err, Some, IsTrue, IfErr, IfOk, OnOk};
+ghost use Rattle.std.specs.Prelude.{◌≡◌, ◌⊎◌, ◌↔◌, ℕ, List as Sequence, ◌∷◌, ◌++◌, length, Err, Some, IsTrue, IfErr, IfOk, OnOk};
 ghost use Rattle.kg_outside.specs.Causes.{Rose};
 ghost use Rattle.kg_declare.specs.Histories.{AreInsertions};
 ghost use Rattle.kg_row_values.specs.Rows.{rows_after};
@@ -9,7 +9,7 @@ ghost use Rattle.kg_plain.specs.Fronts.{IsFront};
 ghost use Rattle.kg_lone.specs.DryRun.{IsCutShort, IsDryWords, IsExit, IsWhole};
 ghost use Rattle.kg_lone.specs.DryText.{IsCutText, IsDryText, IsEndOf, WritesFront, WritesText, exit_of, most_rows, status_of};
 ghost use Rattle.kg_lone.specs.FirstLine.{after_line};
-ghost use Rattle.kg_lone.specs.InsertedRows.{gateway_rows, has_unbuilt};
+ghost use Rattle.kg_lone.specs.InsertedRows.{gateway_rows};
 
 use crate::commands::first_commands;
 use crate::rows::gateway_of;
@@ -32,10 +32,9 @@ fn answered<S: Source, K: Sink, T: Clock>(
     clock: &mut T,
 ) -> Result<End, u8>
     requires rows { AreInsertions most_rows commands }
-    requires built { has_unbuilt commands ≡ false }
-    ensures ok { IfOk result (AnswersAll (gateway_rows (rows_after commands)) (T.reads clock.old clock.new) (S.left source.old) (K.written sink.old) (K.written sink.new)) }
+    ensures ok { IfOk result (AnswersAll (gateway_rows (rows_after commands) (length commands)) (T.reads clock.old clock.new) (S.left source.old) (K.written sink.old) (K.written sink.new)) }
     ensures err { IfErr result (λ status. IsCutShort status
-        × AnswersFront (gateway_rows (rows_after commands)) (T.reads clock.old clock.new) (S.left source.old) (K.written sink.old) (K.written sink.new)) }
+        × AnswersFront (gateway_rows (rows_after commands) (length commands)) (T.reads clock.old clock.new) (S.left source.old) (K.written sink.old) (K.written sink.new)) }
     ensures kept { OnOk result ((S.faults source.new ≡ S.faults source.old) × (K.faults sink.new ≡ K.faults sink.old)) }
     ensures read { result ≡ Err 4 → Rose (S.faults source.old) (S.faults source.new) }
     ensures write { result ≡ Err 5 → Rose (K.faults sink.old) (K.faults sink.new) }
