@@ -27,11 +27,10 @@ usage: kong_node dry < FILE
        kong_node --help | --version
 
 dry   The first line of standard input declares services, routes, consumers, credentials and plugins
-      (a JSON object in Kong's declarative format 1.1, 2.1 or 3.0). The plugins key-auth, basic-auth,
-      acl and rate-limiting aren't run yet, and a line with one of them is refused. The HTTP/1.1
-      requests after it are routed, each goes through the plugins of its route, and the reply to it is
-      written to standard output. The upstream of every service is an echo: it answers with the request
-      that it was sent.
+      (a JSON object in Kong's declarative format 1.1, 2.1 or 3.0). The HTTP/1.1 requests after it are
+      routed, each goes through the plugins of its route, and the reply to it is written to standard
+      output. Limits count the requests of this run. The upstream of every service is an echo: it
+      answers with the request that it was sent.
 
 Exit status of dry: 0 the requests were answered, up to the end of standard input, the first that
 asks for the end of the connection or the thousandth; 3 the first line was refused; 7 a message was
