@@ -32,8 +32,6 @@ BEFORE = {
 MESSAGES = {2: "schema violation", 4: "foreign key violation", 5: "unique constraint violation"}
 # the message of one that has none, by the word for it in the table
 PLAIN = {"full": "Too many rows of this kind", "unread": "Cannot parse JSON body", "too long": "Bad line"}
-# the plugins that aren't run yet: an accepted declaration with a row of one is refused
-NOT_RUN = ("key-auth", "basic-auth", "acl", "rate-limiting")
 
 
 def cases(text):
@@ -56,17 +54,12 @@ def declaration(name, rows):
     return f'{{"_format_version":"3.0",{lists}}}\n'
 
 
-def asks(name, rows):
-    """Whether a row of the list is one of a plugin that isn't run yet."""
-    return name == "plugins" and any(f'"name":"{plugin}"' in rows for plugin in NOT_RUN)
-
-
-def wanted(name, rows, told):
+def wanted(told):
     """The exit status of the run and what it prints."""
     if told == "no memory":
         return 6, ""
     if told == "accepted":
-        return (3, 'line 1 refused: {"message":"Not built yet"}\n') if asks(name, rows) else (0, "")
+        return 0, ""
     if told in PLAIN:
         return 3, f'line 1 refused: {{"message":"{PLAIN[told]}"}}\n'
     code, fields = (int(told[0]), told[2:]) if told[0].isdigit() else (2, told)
@@ -100,7 +93,7 @@ def main():
     table = list(cases((ROOT / "tests/refused.txt").read_text()))
     wrong = 0
     for number, name, rows, told in table:
-        answers = wanted(name, rows, told), had(name, rows)
+        answers = wanted(told), had(name, rows)
         if answers[0] != answers[1]:
             wrong += 1
             print(f"tests/refused.txt:{number}: {name} {rows}")
