@@ -3,7 +3,7 @@
 use crate::end::put_end;
 use crate::pieces::put_pieces;
 use crate::routed::put_routed;
-use crate::whole::{put_clock, put_run};
+use crate::whole::{put_clock, put_run, put_timed};
 use case_lines::{Args, args_of, line_of, put, put_unknown};
 use kg_text::NoMemory;
 use std::alloc::Global;
@@ -28,6 +28,7 @@ fn put_case(alloc: Global, out: &mut String, call: &str, args: &Args) -> Result<
         }
         "end" => put_end(alloc, out, args),
         "clock" => put_clock(alloc, out, args.at(0)),
+        "timed" => put_timed(alloc, out, args.text(0), args.at(1)),
         "routed" => put_routed(alloc, out, args),
         _ => put_unknown(out),
     }

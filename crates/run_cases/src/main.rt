@@ -10,6 +10,7 @@
 //! | `run failing READS WRITES BYTES` | the same while the listed calls of the source and of the sink fail |
 //! | `run end READS WRITES BYTES` | how its answering of requests ends; the status, where it doesn't come to an end |
 //! | `run clock BYTES` | the status, and how often the clock was read |
+//! | `run timed READINGS BYTES` | the status of a run with these readings of the clock, of which the last comes again, and what it writes |
 //! | `run routed SERVICE ROUTES PATH FIELDS` | of a service with this path and these routes, the first line of what a GET for the path with the fields sends upstream; the status of the reply where it sends nothing |
 //!
 //! The parts of a line stand after ` | `.

@@ -94,3 +94,19 @@ pub fn put_clock(alloc: Global, out: &mut String, bytes: &[u8]) -> Result<(), No
     write!(out, "{}", clock.made())?;
     Ok(())
 }
+
+/// Adds the status of a run over these bytes with these readings of the clock, of which the last comes again, and
+/// what it writes.
+pub fn put_timed(
+    alloc: Global,
+    out: &mut String,
+    readings: &str,
+    bytes: &[u8],
+) -> Result<(), NoMemory> {
+    let mut sink = MemSink::new(alloc, List::new(alloc));
+    let mut source = source_of(alloc, bytes, 4096, "")?;
+    let mut clock = ListClock::new(numbers_of(alloc, readings)?);
+    let status = status_of(alloc, "dry", &mut source, &mut sink, &mut clock)?;
+    put_status(out, status)?;
+    put_written(out, sink.written())
+}
