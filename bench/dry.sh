@@ -1,12 +1,16 @@
 #!/usr/bin/env bash
 # Measures `kong_node dry` over 10, 1,000 and 10,000 routes, told apart by their paths and by their hosts; over
-# the worked example of two routes, as it is and with all six plugins on each of them; and over that example beside
-# 10, 1,000 and 10,000 rows of one plugin, none of which runs: choosing a row must cost the same.
+# the worked example of two routes, as it is and with six plugins on each of them; over that example beside
+# 10, 1,000 and 10,000 rows of one plugin, none of which runs: choosing a row must cost the same; and over that
+# example with a key in each request, without plugins and with key-auth and rate-limiting on each route, beside 1
+# consumer and beside 100,000, of whom each sends its requests in turn.
 # usage: bench/dry.sh [LIMIT.c]
 # For each it prints the median wall time of five runs over 1,000 requests and, where valgrind is
 # installed, the instructions per request (those of a run without requests taken off).
 # With LIMIT.c, a C program that answers the requests of the worked example alone, it prints how many
 # times its instructions per request the gateway takes.
+# Status 1: with key-auth and rate-limiting a request takes more than 2.5 times the instructions of one without
+# plugins, or beside 100,000 consumers a tenth more than beside 1, or a tenth less.
 set -eu
 root="$(cd "$(dirname "${BASH_SOURCE[0]}")/.." && pwd)"
 program="$root/crates/kong_node/out/kong_node"
@@ -41,6 +45,8 @@ six = [
     {"name": "response-transformer", "config": {"add": {"headers": ["x-b:2"]}}},
     {"name": "request-termination", "enabled": False},
 ]
+# each passes the request on, once it has asked
+asking = [{"name": "key-auth"}, {"name": "rate-limiting", "config": {"minute": 1000000000}}]
 rows = {}
 if by in ("path", "host"):
     rows["services"] = [service(i) for i in range(count)]
@@ -49,11 +55,19 @@ else:
     routes = [{"name": "f", "paths": ["/fv0"], "strip_path": False}, {"name": "t", "paths": ["/tv0"]}]
     if by == "plugins":
         routes = [{**route, "plugins": six} for route in routes]
+    if by == "asking":
+        routes = [{**route, "plugins": asking} for route in routes]
     if by == "rows":
         rows["consumers"] = [{"username": f"c{i}", "plugins": [{"name": "response-transformer"}]} for i in range(count)]
+    if by in ("keys", "asking"):
+        rows["consumers"] = [{"username": f"c{i}", "keyauth_credentials": [{"key": f"k{i}"}]} for i in range(count)]
     rows["services"] = [{"name": "s", "url": "http://up.example/s", "routes": routes}]
     paths = ["/fv0/req", "/tv0/req", "/tv0req"]
-    texts = [f"GET {paths[i % 3]} HTTP/1.1\r\nHost: shop.example\r\n\r\n" for i in range(requests)]
+    key = "apikey: k{}\r\n" if by in ("keys", "asking") else ""
+    texts = [
+        f"GET {paths[i % 3]} HTTP/1.1\r\nHost: shop.example\r\n{key.format(i * 7919 % count)}\r\n"
+        for i in range(requests)
+    ]
 line = json.dumps({"_format_version": "3.0", **rows}, separators=(",", ":")) + "\n"
 with open(f"{folder}/declaration", "w") as out:
     out.write(line)
@@ -86,14 +100,24 @@ per_request() {
 
 has_valgrind() { command -v valgrind > /dev/null; }
 
-# what the run that was written last takes
+# what the run that was written last takes; `took` is its instructions a request
 tell() {
     local told
     told="$1, $requests requests: median of five runs $(median_time) microseconds"
     if has_valgrind; then
-        told="$told, $(per_request "$program" dry) instructions a request"
+        took=$(per_request "$program" dry)
+        told="$told, $took instructions a request"
     fi
     echo "$told"
+}
+
+# how many times the second number the first is, whether that is within the bounds, and what it is of
+compare() {
+    awk -v ours="$1" -v theirs="$2" -v least="$3" -v most="$4" -v of="$5" 'BEGIN {
+        times = ours / theirs
+        printf "%s: %.2f times, of at least %s and at most %s\n", of, times, least, most
+        exit times < least || times > most
+    }'
 }
 
 for by in path host; do
@@ -111,6 +135,25 @@ for rows in 10 1000 10000; do
     tell "worked example beside $rows rows of a plugin"
 done
 
+declare -A took_by
+for by in keys asking; do
+    for consumers in 1 100000; do
+        write_run "$by" "$consumers"
+        with=$([ "$by" = keys ] && echo "without plugins" || echo "with key-auth and rate-limiting")
+        tell "worked example with a key in each request, $with, beside $consumers consumers"
+        took_by[$by$consumers]=${took:-}
+    done
+done
+failed=0
+if has_valgrind; then
+    for consumers in 1 100000; do
+        compare "${took_by[asking$consumers]}" "${took_by[keys$consumers]}" 0 2.5 \
+            "key-auth and rate-limiting against no plugins, beside $consumers consumers" || failed=1
+    done
+    compare "${took_by[asking100000]}" "${took_by[asking1]}" 0.9 1.1 \
+        "key-auth and rate-limiting beside 100000 consumers against beside 1" || failed=1
+fi
+
 if [ $# -gt 0 ] && has_valgrind && command -v gcc > /dev/null; then
     gcc -O2 -o "$folder/limit" "$1"
     write_run example 2
@@ -122,3 +165,4 @@ if [ $# -gt 0 ] && has_valgrind && command -v gcc > /dev/null; then
     times=$(awk -v ours="$ours" -v limit="$limit" 'BEGIN { printf "%.1f", ours / limit }')
     echo "worked example: $ours instructions a request, $limit of the limit program: $times times"
 fi
+exit "$failed"
