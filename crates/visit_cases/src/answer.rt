@@ -1,5 +1,6 @@
 //! What a line gives.
 
+use crate::asked::put_asked;
 use crate::choose::put_chosen;
 use crate::rows::put_declared;
 use crate::visit::put_visit;
@@ -12,13 +13,19 @@ use std::alloc::Global;
 pub fn put_answer(
     alloc: Global,
     out: &mut String,
-    gateway: &mut Option<Gateway>,
+    gateway: &mut Option<Box<Gateway>>,
     text: &str,
 ) -> Result<(), NoMemory> {
     let line = line_of(text);
     match line.subject {
         "rows" => put_rows_answer(alloc, out, gateway, line.call, &args_of(alloc, line.rest)?),
-        "request" => put_visit(alloc, out, gateway, &args_of(alloc, line.rest)?),
+        "request" => put_request_answer(
+            alloc,
+            out,
+            gateway,
+            line.call,
+            &args_of(alloc, line.rest)?,
+        ),
         _ => put(out, text),
     }
 }
@@ -26,13 +33,27 @@ pub fn put_answer(
 fn put_rows_answer(
     alloc: Global,
     out: &mut String,
-    gateway: &mut Option<Gateway>,
+    gateway: &mut Option<Box<Gateway>>,
     call: &str,
     args: &Args,
 ) -> Result<(), NoMemory> {
     match call {
         "declare" => put_declared(alloc, out, gateway, args.at(0)),
         "choose" => put_chosen(out, gateway, args),
+        _ => put_unknown(out),
+    }
+}
+
+fn put_request_answer(
+    alloc: Global,
+    out: &mut String,
+    gateway: &Option<Box<Gateway>>,
+    call: &str,
+    args: &Args,
+) -> Result<(), NoMemory> {
+    match call {
+        "visit" => put_visit(alloc, out, gateway, args),
+        "asks" => put_asked(alloc, out, gateway, args),
         _ => put_unknown(out),
     }
 }

@@ -11,7 +11,7 @@ use kg_text::NoMemory;
 /// index and by a search of all rows.
 pub fn put_chosen(
     out: &mut String,
-    gateway: &Option<Gateway>,
+    gateway: &Option<Box<Gateway>>,
     args: &Args,
 ) -> Result<(), NoMemory> {
     match (gateway, PluginName::named(args.text(0))) {

@@ -17,7 +17,7 @@ use std::alloc::Global;
 pub fn put_visit(
     alloc: Global,
     out: &mut String,
-    gateway: &Option<Gateway>,
+    gateway: &Option<Box<Gateway>>,
     args: &Args,
 ) -> Result<(), NoMemory> {
     match gateway {
