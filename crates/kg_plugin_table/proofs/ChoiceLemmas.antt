@@ -1,6 +1,5 @@
 -- A row is chosen by its key.
-use Rattle.std.proofs.Common.{◌≡◌, ℕ, Bool, true, false, cond, ◌&&◌, List, [], ◌∷◌, Option, Some, None, IfSome, All, find, nat_eq, option_and_then, slice_get, refl, sym, ap, subst, ◌∙◌}
-use Rattle.std.proofs.lemmas.List.Elements.{All-head, All-tail}
+use Rattle.std.proofs.Common.{◌≡◌, ℕ, false, ◌&&◌, List, [], ◌∷◌, Option, Some, None, find, nat_eq, option_and_then, refl, sym, ap, subst, ◌∙◌}
 use Rattle.std.specs.List.{list_any}
 use Rattle.std.specs.Option.{option_eq, option_map_or, option_or}
 use Rattle.kg_row_types.specs.PluginNames.{plugin_of, priority}
@@ -9,12 +8,13 @@ use Rattle.kg_row_types.specs.declared.plugin.PluginRow.{PluginRow}
 use Rattle.kg_row_types.specs.declared.plugin.Scope.{Scope}
 use Rattle.kg_plugin_table.specs.Keys.{ArePlaces, Key, has_key, key_of, place_in, rank_of, scope_with}
 use Rattle.kg_plugin_table.specs.Names.{AreNames, has_priority, is_row_of}
+use Rattle.kg_plugin_table.specs.PluginRows.{IsPlaceOf}
 use Rattle.kg_plugin_table.specs.Precedence.{chosen_row, first_found, precedence_of, precedences, row_with, runs_with}
 use Rattle.kg_plugin_table.specs.declared.names.RowNames.{RowNames}
 use Rattle.kg_plugin_table.specs.declared.places.RowPlaces.{RowPlaces}
 use Rattle.kg_plugin_table.specs.declared.precedence.Parts.{Parts}
 use Rattle.kg_plugin_table.proofs.KeyLemmas.{runs_by_key, same_names}
-use Rattle.kg_plugin_table.proofs.PlaceLemmas.{find_alike, find_nothing, get_at_position}
+use Rattle.kg_plugin_table.proofs.PlaceLemmas.{find_alike, find_nothing, place_of_first}
 
 -- ---- one precedence
 
@@ -36,21 +36,8 @@ row_by_key rows name request these =
     by_scope (Some exact) = refl
 
 -- it stands where its key leads
-pub row_at_place : (rows : List PluginRow) (places : RowPlaces) (key : Key) → ArePlaces rows places → find (has_key key) rows ≡ option_and_then (slice_get rows) (place_in places key)
-row_at_place rows places key are = sym (get_at_position (has_key key) rows) ∙ ap (option_and_then (slice_get rows)) (sym (are key))
-
--- what is found is one of the rows
-pub found_among : (P : PluginRow → Type 0) (rows : List PluginRow) (name : PluginName) (request : Scope) (precedence : ℕ) (found : Option PluginRow)
-    → All P rows → found ≡ row_with rows name request precedence → IfSome found P
-found_among P rows name request precedence found each is = subst (λ one. IfSome one P) (sym is) (find_among P (runs_with name request precedence) rows each)
-  where
-    find_among : {A : Type 0} (P : A → Type 0) (test : A → Bool) (xs : List A) → All P xs → IfSome (find test xs) P
-    find_among P test [] each = tt
-    find_among P test (x ∷ xs) each = by_test (test x) (find_among P test xs (All-tail P x xs each))
-      where
-        by_test : (passes : Bool) → IfSome (find test xs) P → IfSome (cond passes (Some x) (find test xs)) P
-        by_test true later = All-head P x xs each
-        by_test false later = later
+pub place_of_key : (rows : List PluginRow) (places : RowPlaces) (key : Key) → ArePlaces rows places → IsPlaceOf rows (find (has_key key) rows) (place_in places key)
+place_of_key rows places key are = subst (IsPlaceOf rows (find (has_key key) rows)) (sym (are key)) (place_of_first (has_key key) rows)
 
 -- ---- all of them
 

@@ -1,11 +1,13 @@
 -- Places in a list.
-use Rattle.std.proofs.Common.{◌≡◌, ℕ, ◌+◌, ◌||◌, true≢false, find, option_and_then, slice_get, Bool, true, false, cond, List, [], ◌∷◌, ◌++◌, length, Some, None, sym, refl, ap, ◌∙◌, nat_lt, arith}
-use Rattle.std.proofs.lemmas.Bool.{ltb-false}
+use Rattle.std.proofs.Common.{◌≡◌, ℕ, ◌+◌, ◌||◌, true≢false, find, inl, inr, is_some, IsTrue, subst, Bool, true, false, cond, List, [], ◌∷◌, ◌++◌, length, Some, None, sym, refl, ap, ◌∙◌, nat_lt, arith}
+use Rattle.std.proofs.lemmas.Bool.{ltb-false, ltb-true}
 use Rattle.std.proofs.lemmas.List.Folds.{find_at}
-use Rattle.std.proofs.lemmas.Option.{slice_get_past}
+use Rattle.std.proofs.lemmas.Option.{slice_get_cases, slice_get_past}
 use Rattle.std.proofs.lemmas.Iterator.Adapters.{position_from-zero}
 use Rattle.std.specs.List.{list_any, position, position_from, position_or_len}
 use Rattle.std.specs.Option.{option_or}
+use Rattle.kg_row_types.specs.declared.plugin.PluginRow.{PluginRow}
+use Rattle.kg_plugin_table.specs.PluginRows.{IsPlaceOf}
 
 position_from-push : {A : Type 0} (test : A → Bool) (at : ℕ) (xs : List A) (x : A) → position_from test at (xs ++ x ∷ []) ≡ option_or (position_from test at xs) (cond (test x) (Some (at + length xs)) None)
 position_from-push test at [] x = ap (λ n. cond (test x) (Some n) None) (omega arith)
@@ -26,14 +28,17 @@ position-push test xs x =
     ∙ ap (λ n. option_or (position_from test 0 xs) (cond (test x) (Some n) None)) (omega arith)
     ∙ ap (λ first. option_or first (cond (test x) (Some (length xs)) None)) (sym (position_from-zero test xs))
 
--- the member at the first place that passes is the first that passes
-pub get_at_position : {A : Type 0} (test : A → Bool) (xs : List A) → option_and_then (slice_get xs) (position test xs) ≡ find test xs
-get_at_position test xs = by_within (nat_lt (position_or_len test xs) (length xs)) refl ∙ sym (find_at test xs)
+-- the first row that passes stands at the first place that passes
+pub place_of_first : (test : PluginRow → Bool) (rows : List PluginRow) → IsPlaceOf rows (find test rows) (position test rows)
+place_of_first test rows = by_within (nat_lt (position_or_len test rows) (length rows)) refl
   where
-    by_within : (within : Bool) → nat_lt (position_or_len test xs) (length xs) ≡ within
-        → option_and_then (slice_get xs) (cond within (Some (position_or_len test xs)) None) ≡ slice_get xs (position_or_len test xs)
-    by_within true is = refl
-    by_within false is = sym (slice_get_past xs (position_or_len test xs) (ltb-false (position_or_len test xs) (length xs) is))
+    by_within : (within : Bool) → nat_lt (position_or_len test rows) (length rows) ≡ within
+        → IsPlaceOf rows (find test rows) (cond within (Some (position_or_len test rows)) None)
+    by_within true is = elim (slice_get_cases rows (position_or_len test rows)).1 [
+      | inl (row, within, some, same) ↦ (subst (λ found. IsTrue (is_some found)) (sym (find_at test rows ∙ some)) refl, sym (find_at test rows))
+      | inr (past, none) ↦ absurd (omega (arith, past, ltb-true (position_or_len test rows) (length rows) is))
+    ]
+    by_within false is = find_at test rows ∙ slice_get_past rows (position_or_len test rows) (ltb-false (position_or_len test rows) (length rows) is)
 
 -- tests that say the same of each member find the same
 pub find_alike : {A : Type 0} (p q : A → Bool) → ((x : A) → p x ≡ q x) → (xs : List A) → find p xs ≡ find q xs

@@ -1,7 +1,7 @@
 -- A plugin without an enabled row of a rank has none that runs with it.
-use Rattle.std.proofs.Common.{◌≡◌, ℕ, Bool, true, false, cond, ◌&&◌, ◌==◌, List, Option, Some, None, nat_eq, refl, sym, ap, ◌∙◌}
+use Rattle.std.proofs.Common.{◌≡◌, ℕ, Bool, true, false, cond, ◌&&◌, ◌==◌, List, Some, None, nat_eq, refl, sym, ap, ◌∙◌}
 use Rattle.std.specs.Option.{option_eq}
-use Rattle.kg_row_types.specs.PluginNames.{plugin_of, priority, same_plugin}
+use Rattle.kg_row_types.specs.PluginNames.{plugin_of, priority}
 use Rattle.kg_row_types.specs.declared.plugin.PluginName.{PluginName}
 use Rattle.kg_row_types.specs.declared.plugin.PluginRow.{PluginRow}
 use Rattle.kg_row_types.specs.declared.plugin.Scope.{Scope}

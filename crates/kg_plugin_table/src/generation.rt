@@ -1,9 +1,10 @@
 //! The choice of a plugin's row.
 
-ghost use Rattle.std.specs.Prelude.{◌≡◌, All, IfOk, IfSome, find};
+ghost use Rattle.std.specs.Prelude.{◌≡◌, All, IfOk, IfSome, slice_get};
 ghost use Rattle.std.specs.Option.{option_copied};
 ghost use Rattle.kg_row_types.specs.ValidRows.{IsValidPlugin};
-ghost use Rattle.kg_plugin_table.specs.Keys.{has_key, key_of, rank_of};
+ghost use Rattle.kg_plugin_table.specs.Keys.{rank_of};
+ghost use Rattle.kg_plugin_table.specs.PluginRows.{IsPlaceOf};
 ghost use Rattle.kg_plugin_table.specs.Precedence.{chosen_row, row_with};
 
 use crate::names::RowNames;
@@ -67,34 +68,42 @@ impl PluginGen {
         ensures chosen { option_copied result ≡ chosen_row self.now.rows name scope.now }
         ensures valid { IfSome (option_copied result) IsValidPlugin }
     {
+        let place = self.choose_place(name, scope)?;
+        self.row_at(place)
+    }
+
+    /// The place among the rows of the one that `choose` gives.
+    pub fn choose_place(&self, name: PluginName, scope: &Scope) -> Option<usize>
+        ensures { IsPlaceOf self.now.rows (chosen_row self.now.rows name scope.now) result }
+    {
         if !self.names.has(name) {
             return None;
         }
         for parts in PRECEDENCE {
-            match self.row_with(name, scope, parts) {
-                Some(row) => return Some(row),
+            match self.place_with(name, scope, parts) {
+                Some(place) => return Some(place),
                 None => {}
             }
         }
         None
     }
 
-    // The row that runs with the precedence of these parts.
-    fn row_with(&self, name: PluginName, scope: &Scope, parts: Parts) -> Option<&PluginRow>
-        ensures { option_copied result ≡ row_with self.now.rows name scope.now (rank_of parts) }
+    // The place of the row that runs with the precedence of these parts.
+    fn place_with(&self, name: PluginName, scope: &Scope, parts: Parts) -> Option<usize>
+        ensures { IsPlaceOf self.now.rows (row_with self.now.rows name scope.now (rank_of parts)) result }
     {
         if !self.ranks.has(name, rank_of(parts)) {
             return None;
         }
         let exact = scope_with(parts, scope)?;
-        self.row_of(name, &exact)
+        self.places.get(name, &exact)
     }
 
-    // The first enabled row of the plugin that has just this scope.
-    fn row_of(&self, name: PluginName, scope: &Scope) -> Option<&PluginRow>
-        ensures { option_copied result ≡ find (has_key (key_of name scope.now)) self.now.rows }
+    /// The row at a place, if one is there.
+    pub fn row_at(&self, place: usize) -> Option<&PluginRow>
+        ensures row { option_copied result ≡ slice_get self.now.rows place }
+        ensures valid { IfSome (option_copied result) IsValidPlugin }
     {
-        let place = self.places.get(name, scope)?;
         self.rows.get(place)
     }
 
