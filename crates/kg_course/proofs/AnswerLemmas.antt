@@ -147,6 +147,7 @@ wants_lacking rows way moment given verdicts before now lacking goes =
           let answered = answers (value_in given) verdicts (Some Fault) in
           let err : Want → Result Under Want = λ one. Err one in
           absurd (no_message left answered Fault message refl ((goes.stands (Some Fault)).rest ∙ ap err is));
+      known = goes.known;
     }
 
 -- nothing is
@@ -162,4 +163,5 @@ wants_finished rows way moment given verdicts before now next goes replies =
           ∙ sym (ap want_of (run_through left (finished way) told
           ∙ ap (λ came. onward came (λ under. run (finished way under) told)) (goes.stands None).rest));
       over = λ message is. record { stands = goes.stands; not_ended = replies.not_ended message is };
+      known = goes.known;
     }

@@ -1,5 +1,5 @@
 -- A walk that goes on from where it stood.
-use Rattle.std.proofs.Common.{◌≡◌, ℕ, ◌+◌, List, [], ◌∷◌, ◌++◌, take, drop, Some, None, Result, Ok, Err, refl, sym, ap, subst, ◌∙◌, slice_get, inl, inr}
+use Rattle.std.proofs.Common.{◌≡◌, ℕ, ◌+◌, List, [], ◌∷◌, ◌++◌, take, drop, Option, Some, None, Result, Ok, Err, refl, sym, ap, subst, ◌∙◌, slice_get, inl, inr}
 use Rattle.std.proofs.lemmas.List.{drop_all, drop_more, take_more}
 use Rattle.std.proofs.lemmas.Option.{get_or_from_slice_get, slice_get_cases, slice_get_within}
 use Rattle.kg_row_types.specs.PluginNames.{plugins_in_order}
@@ -10,7 +10,7 @@ use Rattle.kg_limit.specs.declared.hit.Verdict.{Verdict}
 use Rattle.kg_course.specs.Course.{Answers, run}
 use Rattle.kg_course.specs.Phases.{Under}
 use Rattle.kg_course.specs.Plain.{answers, turn, walk}
-use Rattle.kg_course.specs.Walks.{Goes, HasCome, HasComeOn, Stands, TakesTurn, under_way}
+use Rattle.kg_course.specs.Walks.{Goes, HasCome, HasComeOn, KnowsRow, Stands, TakesTurn, under_way}
 use Rattle.kg_course.specs.declared.moment.Moment.{Moment}
 use Rattle.kg_course.specs.declared.walk.Walk.{Walk}
 use Rattle.kg_course.specs.declared.want.Want.{Want}
@@ -92,16 +92,19 @@ pub stops : (rows : List PluginRow) (moment : Moment) (given : List Answer) (ver
     → HasComeOn rows moment given verdicts begin before → slice_get plugins_in_order before.taken ≡ Some name
     → TakesTurn rows moment given verdicts name before (Some lacking) now → Goes rows moment given verdicts begin (Some lacking) now
 stops rows moment given verdicts begin before now name lacking on next turned =
-    let here : Goes rows moment given verdicts begin (Some lacking) before = record {
-      on = on;
+    let stopped_at : Option ℕ → Walk = λ asking. record before { asking = asking } in
+    let here : Goes rows moment given verdicts begin (Some lacking) (stopped_at now.asking) = record {
+      on = record { came = on.came; request = on.request; counted = on.counted };
       stands = λ upstream. stopped rows moment (answers (value_in given) verdicts upstream) (under_way rows verdicts before) before.taken name lacking next (turned.leads upstream);
+      known = subst (KnowsRow rows) turned.kept turned.known;
     } in
     subst (λ walk. Goes rows moment given verdicts begin (Some lacking) walk) (sym turned.kept) here
 
 -- no turn is left
 pub ends : (rows : List PluginRow) (moment : Moment) (given : List Answer) (verdicts : List Verdict) (begin now : Walk)
-    → HasComeOn rows moment given verdicts begin now → slice_get plugins_in_order now.taken ≡ None → Goes rows moment given verdicts begin None now
-ends rows moment given verdicts begin now on none = record {
+    → HasComeOn rows moment given verdicts begin now → KnowsRow rows now → slice_get plugins_in_order now.taken ≡ None → Goes rows moment given verdicts begin None now
+ends rows moment given verdicts begin now on known none = record {
   on = on;
+  known = known;
   stands = λ upstream. at_end rows moment (answers (value_in given) verdicts upstream) (under_way rows verdicts now) now.taken none;
 }

@@ -1,5 +1,5 @@
 -- Machinery for proofs: a walk over the plugins that stops at each question and goes on from there.
-use Rattle.std.specs.Prelude.{◌≡◌, ℕ, List, [], take, drop, ◌+◌, Option, Some, None, Ok, option_map, slice_get}
+use Rattle.std.specs.Prelude.{◌≡◌, ℕ, List, [], take, drop, ◌+◌, Option, Some, None, IfSome, Ok, option_map, slice_get}
 use Rattle.std.specs.List.{flat_map}
 use Rattle.kg_row_types.specs.PluginNames.{plugins_in_order}
 use Rattle.kg_row_types.specs.declared.plugin.PluginName.{PluginName}
@@ -7,6 +7,7 @@ use Rattle.kg_row_types.specs.declared.plugin.PluginRow.{PluginRow}
 use Rattle.kg_row_types.specs.declared.key.Key.{Key}
 use Rattle.kg_row_types.specs.declared.value.Value.{Value}
 use Rattle.kg_message.specs.declared.request.Request.{Request}
+use Rattle.kg_plugin_table.specs.PluginRows.{IsPlaceOf}
 use Rattle.kg_plugin_table.specs.Precedence.{chosen_row}
 use Rattle.kg_context.specs.Context.{started}
 use Rattle.kg_context.specs.Given.{Answer, value_in}
@@ -16,18 +17,17 @@ use Rattle.kg_limit.specs.declared.hit.Hit.{Hit}
 use Rattle.kg_limit.specs.declared.hit.Verdict.{Verdict}
 use Rattle.kg_course.specs.Course.{Answers, Course, run, through}
 use Rattle.kg_course.specs.Phases.{Under}
-use Rattle.kg_course.specs.Plain.{answers, finished, list_of, turn, walk, want_of}
+use Rattle.kg_course.specs.Plain.{answers, finished, list_of, scope_of, turn, walk, want_of}
 use Rattle.kg_course.specs.Steps.{outcome}
 use Rattle.kg_course.specs.declared.moment.Moment.{Moment}
-use Rattle.kg_course.specs.declared.walk.Turn.{Turn}
 use Rattle.kg_course.specs.declared.walk.Walk.{Walk}
 use Rattle.kg_course.specs.declared.want.Want.{Want}
 use Rattle.kg_course.specs.declared.want.Want.TheVariants as want
 use Rattle.kg_upstream.specs.declared.way.Way.{Way}
 
--- the row that was chosen at a turn
-abbrev pub chosen_in : List PluginRow → Turn → List PluginRow
-chosen_in rows turn = list_of (chosen_row rows turn.name turn.scope)
+-- the row that was chosen at a turn, which stands at this place
+abbrev pub chosen_in : List PluginRow → ℕ → List PluginRow
+chosen_in rows place = list_of (slice_get rows place)
 
 -- the hit with the first verdict
 abbrev pub limit_of : Option Hit → List Verdict → Option (Hit × Verdict)
@@ -40,6 +40,11 @@ in_walk chosen verdicts walk = record { ctx = walk.ctx; chosen = chosen; limit =
 
 abbrev pub under_way : List PluginRow → List Verdict → Walk → Under
 under_way rows verdicts walk = in_walk (flat_map (chosen_in rows) walk.turns) verdicts walk
+
+-- the row whose turn a question stopped is the one that is chosen at that turn
+abbrev pub KnowsRow : List PluginRow → Walk → Type 0
+KnowsRow rows walk =
+    IfSome walk.asking (λ place. (name : PluginName) → slice_get plugins_in_order walk.taken ≡ Some name → IsPlaceOf rows (chosen_row rows name (scope_of walk.ctx)) (Some place))
 
 -- a walk that stops at a question is as before
 abbrev pub KeepsWalk : Walk → Option Want → Walk → Type 0
@@ -76,14 +81,21 @@ pub record Goes (rows : List PluginRow) (moment : Moment) (given : List Answer) 
   pub on : HasComeOn rows moment given verdicts before now
   pub stands : (upstream : Option Upstream)
       → Stands rows moment (answers (value_in given) verdicts upstream) now.taken (under_way rows verdicts now) lacking
+  pub known : KnowsRow rows now
 
 -- ---- one turn
+
+-- a walk that stops at a question is as before, but for the row that asked
+abbrev pub KeepsTurn : Walk → Option Want → Walk → Type 0
+KeepsTurn before (Some lacking) now = now ≡ record before { asking = now.asking }
+KeepsTurn before None now = Unit {0}
 
 -- a turn was taken: it is over, or it lacks something and the walk is as before
 pub record TakesTurn (rows : List PluginRow) (moment : Moment) (given : List Answer) (verdicts : List Verdict) (name : PluginName) (before : Walk) (lacking : Option Want) (now : Walk) : Type 0 where
   pub leads : (upstream : Option Upstream)
       → run (turn rows moment name (under_way rows verdicts before)) (answers (value_in given) verdicts upstream) ≡ outcome lacking (under_way rows verdicts now)
-  pub kept : KeepsWalk before lacking now
+  pub kept : KeepsTurn before lacking now
+  pub known : KnowsRow rows now
   pub taken : lacking ≡ None → now.taken ≡ before.taken + 1
   pub request : now.ctx.request ≡ before.ctx.request
   pub counted : (verdicts ≡ [] → before.limit ≡ None) → verdicts ≡ [] → now.limit ≡ None
@@ -95,6 +107,7 @@ pub record BeginsWalk (way : Way) (asked : Request) (walk : Walk) : Type 0 where
   pub ctx : walk.ctx ≡ started way.service way.route asked
   pub taken : walk.taken ≡ 0
   pub turns : walk.turns ≡ []
+  pub asking : walk.asking ≡ None
   pub limit : walk.limit ≡ None
 
 -- the reply to a request that a plugin ended, or the message whose answer is lacking
@@ -113,3 +126,4 @@ pub record WantsOnRoute (rows : List PluginRow) (way : Way) (moment : Moment) (g
   pub on : HasComeOn rows moment given verdicts before now
   pub rest : next ≡ want_of (run (through (walk rows moment (drop now.taken plugins_in_order) (under_way rows verdicts now)) (finished way)) (answers (value_in given) verdicts None))
   pub over : (message : UpRequest) → next ≡ want.Upstream message → IsOver rows moment given verdicts now
+  pub known : KnowsRow rows now

@@ -30,8 +30,8 @@ pub fn filter_all(
 ) -> Result<(), NoMemory>
     ensures { OnOk result (reply.new ≡ filtered (under_way plugins.now.rows verdicts.now walk.now) reply.old) }
 {
-    for turn in walk.turns.as_slice() {
-        match plugins.choose(turn.name, &turn.scope) {
+    for place in walk.turns.as_slice() {
+        match plugins.row_at(*place) {
             Some(row) => filter(alloc, row, verdicts, walk, reply)?,
             None => {}
         }

@@ -3,8 +3,11 @@
 ghost use Rattle.std.specs.Prelude.{◌≡◌, IfOk, Some, slice_get};
 ghost use Rattle.kg_row_types.specs.PluginNames.{plugins_in_order};
 ghost use Rattle.kg_row_types.specs.ValidRows.{IsValidPlugin};
+ghost use Rattle.kg_row_types.specs.declared.plugin.PluginRow.{PluginRow as ARow};
+ghost use Rattle.kg_plugin_table.specs.PluginRows.{IsPlaceOf};
+ghost use Rattle.kg_plugin_table.specs.Precedence.{chosen_row};
 ghost use Rattle.kg_course.specs.Plain.{ran, scope_of};
-ghost use Rattle.kg_course.specs.Walks.{BeginsWalk, Goes, Runs, TakesTurn};
+ghost use Rattle.kg_course.specs.Walks.{BeginsWalk, Goes, KnowsRow, Runs, TakesTurn};
 
 use crate::access::access;
 use crate::moment::Moment;
@@ -32,22 +35,16 @@ const PLUGINS: [PluginName; 10] = [
     PluginName::RequestTermination,
 ];
 
-/// A turn at which a row was chosen: the row is found again by the name and the scope.
-#[derive(Clone, Copy)]
-pub struct Turn {
-    pub name: PluginName,
-    /// The request's scope as it was known then.
-    pub scope: Scope,
-}
-
 /// A request on its walk over the plugins.
 #[derive(Drop)]
 pub struct Walk {
     pub ctx: ReqCtx,
     /// How many turns are over.
     pub taken: usize,
-    /// Those of them at which a row was chosen.
-    pub turns: List<Turn>,
+    /// The places of the rows that were chosen at these turns.
+    pub turns: List<usize>,
+    /// The place of the row whose turn a question stopped, if one did.
+    pub asking: Option<usize>,
     /// The hit that was counted, if one was.
     pub limit: Option<Hit>,
 }
@@ -62,6 +59,7 @@ impl Walk {
             ctx,
             taken: 0,
             turns: List::new(alloc),
+            asking: None,
             limit: None,
         })
     }
@@ -76,13 +74,11 @@ pub fn go_on(
     verdicts: &List<Verdict>,
     walk: &mut Walk,
 ) -> Result<Option<Want>, NoMemory>
+    requires known { KnowsRow plugins.now.rows walk.old }
     ensures { IfOk result (λ lacking. Goes plugins.now.rows moment given.now verdicts.now walk.old lacking walk.new) }
 {
-    let mut scope = scope_of(&walk.ctx);
     while let Some(name) = name_at(walk.taken) {
-        match take_turn(
-            alloc, plugins, moment, given, verdicts, name, &mut scope, walk,
-        )? {
+        match take_turn(alloc, plugins, moment, given, verdicts, name, walk)? {
             Some(lacking) => return Ok(Some(lacking)),
             None => {}
         }
@@ -96,8 +92,7 @@ fn name_at(taken: usize) -> Option<PluginName>
     PLUGINS.get(taken).copied()
 }
 
-// Takes the turn of a plugin: its row is chosen, and runs. A turn that lacks something isn't over. The scope is that of
-// the request, which a row that runs may change.
+// Takes the turn of a plugin: its row is chosen, and runs. A turn that lacks something isn't over.
 fn take_turn(
     alloc: Global,
     plugins: &PluginGen,
@@ -105,30 +100,56 @@ fn take_turn(
     given: &Given,
     verdicts: &List<Verdict>,
     name: PluginName,
-    scope: &mut Scope,
     walk: &mut Walk,
 ) -> Result<Option<Want>, NoMemory>
     requires next { slice_get plugins_in_order walk.old.taken ≡ Some name }
-    requires known { scope.old ≡ scope_of walk.old.ctx }
-    ensures turn { IfOk result (λ lacking. TakesTurn plugins.now.rows moment given.now verdicts.now name walk.old lacking walk.new) }
-    ensures known { IfOk result (λ lacking. scope.new ≡ scope_of walk.new.ctx) }
+    requires known { KnowsRow plugins.now.rows walk.old }
+    ensures { IfOk result (λ lacking. TakesTurn plugins.now.rows moment given.now verdicts.now name walk.old lacking walk.new) }
 {
-    match plugins.choose(name, scope) {
-        Some(row) => {
-            match run_row(alloc, row, moment, given, verdicts, walk)? {
-                Some(lacking) => return Ok(Some(lacking)),
-                None => {}
+    match place_of_row(plugins, name, walk) {
+        Some(place) => match run_at(alloc, plugins, place, moment, given, verdicts, walk)? {
+            Some(lacking) => {
+                walk.asking = Some(place);
+                return Ok(Some(lacking));
             }
-            walk.turns.push(Turn {
-                name,
-                scope: *scope,
-            })?;
-            *scope = scope_of(&walk.ctx);
-        }
+            None => walk.turns.push(place)?,
+        },
         None => {}
     }
+    walk.asking = None;
     walk.taken += 1;
     Ok(None)
+}
+
+// Where the plugin's row stands: it is known at a turn that a question stopped.
+fn place_of_row(plugins: &PluginGen, name: PluginName, walk: &Walk) -> Option<usize>
+    requires next { slice_get plugins_in_order walk.now.taken ≡ Some name }
+    requires known { KnowsRow plugins.now.rows walk.now }
+    ensures { IsPlaceOf plugins.now.rows (chosen_row plugins.now.rows name (scope_of walk.now.ctx)) result }
+{
+    match walk.asking {
+        Some(place) => Some(place),
+        None => plugins.choose_place(name, &scope_of(&walk.ctx)),
+    }
+}
+
+// Runs the row at a place.
+fn run_at(
+    alloc: Global,
+    plugins: &PluginGen,
+    place: usize,
+    moment: Moment,
+    given: &Given,
+    verdicts: &List<Verdict>,
+    walk: &mut Walk,
+) -> Result<Option<Want>, NoMemory>
+    ensures { (row : ARow) → slice_get plugins.now.rows place ≡ Some row
+        → IfOk result (λ lacking. Runs (ran moment (Some row)) given.now verdicts.now walk.old lacking walk.new) }
+{
+    match plugins.row_at(place) {
+        Some(row) => run_row(alloc, row, moment, given, verdicts, walk),
+        None => Ok(None),
+    }
 }
 
 // Runs a row, where no plugin has ended the request.

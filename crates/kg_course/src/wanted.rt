@@ -5,7 +5,7 @@ ghost use Rattle.kg_context.specs.Echo.{echo_of};
 ghost use Rattle.kg_context.specs.declared.upstream.Upstream.TheVariants.{Answered};
 ghost use Rattle.kg_upstream.specs.UpstreamMessage.{reply_of};
 ghost use Rattle.kg_course.specs.Plain.{filtered, no_route};
-ghost use Rattle.kg_course.specs.Walks.{RepliesOrAsks, WantsOnRoute, under_way};
+ghost use Rattle.kg_course.specs.Walks.{KnowsRow, RepliesOrAsks, WantsOnRoute, under_way};
 
 use crate::filter::filter_all;
 use crate::moment::Moment;
@@ -29,6 +29,7 @@ pub fn wanted_on_route(
     verdicts: &List<Verdict>,
     walk: &mut Walk,
 ) -> Result<Want, NoMemory>
+    requires known { KnowsRow plugins.now.rows walk.old }
     ensures { IfOk result (λ want. WantsOnRoute plugins.now.rows way.now moment given.now verdicts.now walk.old want walk.new) }
 {
     match go_on(alloc, plugins, moment, given, verdicts, walk)? {
