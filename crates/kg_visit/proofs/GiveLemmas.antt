@@ -1,16 +1,18 @@
 -- A visit that begins, or that is told something, goes on from where it stood.
-use Rattle.std.proofs.Common.{◌≡◌, Bool, true, false, List, [], ◌∷◌, ◌++◌, map, take, drop, option_map, Option, Some, None, Result, Ok, refl, sym, ap, subst, ◌∙◌}
+use Rattle.std.proofs.Common.{◌≡◌, Bool, true, false, List, [], ◌∷◌, ◌++◌, map, take, drop, option_map, slice_get, Option, Some, None, IfSome, Result, Ok, refl, sym, ap, subst, ◌∙◌}
 use Rattle.std.proofs.lemmas.List.{map-append}
 use Rattle.std.specs.List.{flat_map}
 use Rattle.kg_row_types.specs.PluginNames.{plugins_in_order}
 use Rattle.kg_row_types.specs.declared.key.Key.{Key}
+use Rattle.kg_row_types.specs.declared.plugin.PluginName.{PluginName}
 use Rattle.kg_row_types.specs.declared.plugin.PluginRow.{PluginRow}
 use Rattle.kg_row_types.specs.declared.value.Value.{Value}
 use Rattle.kg_message.specs.declared.request.Request.{Request}
 use Rattle.kg_message.specs.declared.response.Response.{Response}
 use Rattle.kg_router.specs.Best.{Choice, best_choice}
 use Rattle.kg_router.specs.RouterRows.{RouterRows}
-use Rattle.kg_plugin_table.specs.PluginRows.{PluginRows}
+use Rattle.kg_plugin_table.specs.PluginRows.{IsPlaceOf, PluginRows}
+use Rattle.kg_plugin_table.specs.Precedence.{chosen_row}
 use Rattle.kg_context.specs.Context.{started}
 use Rattle.kg_context.specs.Echo.{echo_of}
 use Rattle.kg_context.specs.Given.{Answer, value_in}
@@ -23,9 +25,9 @@ use Rattle.kg_upstream.specs.UpstreamMessage.{reply_of, way_of}
 use Rattle.kg_upstream.specs.declared.way.Way.{Way}
 use Rattle.kg_course.specs.Course.{Leaves, run, through}
 use Rattle.kg_course.specs.Phases.{Under}
-use Rattle.kg_course.specs.Plain.{Asked, answered, answers, filtered, finished, no_route, plain, routed, start, walk, want_of}
+use Rattle.kg_course.specs.Plain.{Asked, answered, answers, filtered, finished, no_route, plain, routed, scope_of, start, walk, want_of}
 use Rattle.kg_course.specs.Wants.{Asks}
-use Rattle.kg_course.specs.Walks.{BeginsWalk, HasCome, IsOver, WantsOnRoute, chosen_in, limit_of, under_way}
+use Rattle.kg_course.specs.Walks.{BeginsWalk, HasCome, IsOver, KnowsRow, WantsOnRoute, chosen_in, limit_of, under_way}
 use Rattle.kg_course.specs.declared.moment.Moment.{Moment}
 use Rattle.kg_course.specs.declared.walk.Walk.{Walk}
 use Rattle.kg_course.specs.declared.want.Want.{Want}
@@ -34,7 +36,7 @@ use Rattle.kg_course.proofs.AnswerLemmas.{come_more, current_on_route, extends_e
 use Rattle.kg_course.proofs.CourseLemmas.{onward, run_through}
 use Rattle.kg_visit.specs.Told.{IsAsked, Told, Use, answer_of, begun, entities, want_after}
 use Rattle.kg_visit.specs.Told.{Begins, AsksUse, AsksVerdict, AsksUpstream}
-use Rattle.kg_visit.specs.Visits.{BeginsStage, FitsTogether, IsAtStage, IsOnRoute, IsUnderWay, NextWant, RepliesTo, request_of, told_of}
+use Rattle.kg_visit.specs.Visits.{BeginsStage, FitsTogether, IsAtStage, IsOnRoute, IsUnderWay, KnowsAsker, NextWant, RepliesTo, request_of, told_of}
 use Rattle.kg_visit.specs.declared.stage.Stage.{Stage}
 use Rattle.kg_visit.specs.declared.stage.Stage.TheVariants.{OnRoute, NoRoute}
 
@@ -81,6 +83,7 @@ goes_on_route router plugins request moment uses verdicts upstream given choice 
         counted = goes.on.counted counted;
         came = came;
         over = goes.over;
+        known = goes.known;
       };
     }
 
@@ -193,6 +196,32 @@ asks_without_route : (told : Told) (given : List Answer) (wanted : Want)
 asks_without_route told given wanted fits asks =
     subst Asks (fits.current ∙ done_without_route told.asked (entities told.uses) told.verdicts told.upstream (fits.at_stage asks)) asks
 
+-- where a visit stands, by its parts
+abbrev pub Fits : RouterRows → PluginRows → Moment → List Use → List Verdict → Option Upstream → List Answer → Stage → Want → Type 0
+Fits router plugins moment uses verdicts upstream given stage next =
+    FitsTogether (told_at router plugins (request_of stage) moment uses verdicts upstream) given next
+    (IsAtStage (told_at router plugins (request_of stage) moment uses verdicts upstream) stage given next)
+
+-- ---- the row that asked
+
+-- none has asked at the begin
+pub none_asks_first : (rows : List PluginRow) (way : Option Way) (request : Request) (stage : Stage) → BeginsStage way request stage → KnowsAsker rows stage
+none_asks_first rows (Some way) request (OnRoute journey) begins =
+    subst (λ asking. IfSome asking (λ place. (name : PluginName) → slice_get plugins_in_order journey.value.walk.taken ≡ Some name
+    → IsPlaceOf rows (chosen_row rows name (scope_of journey.value.walk.ctx)) (Some place))) (sym begins.1.asking) tt
+none_asks_first rows way request (NoRoute same) begins = tt
+none_asks_first rows None request (OnRoute journey) begins = absurd begins
+
+-- it is known as long as something is lacking
+pub asker_is_known : (router : RouterRows) (plugins rows : PluginRows) (moment : Moment) (uses : List Use) (verdicts : List Verdict) (upstream : Option Upstream) (given : List Answer)
+    (stage : Stage) (wanted lacking : Want)
+    → rows ≡ plugins → Fits router plugins moment uses verdicts upstream given stage wanted → wanted ≡ lacking → Asks lacking → KnowsAsker rows.rows stage
+asker_is_known router plugins rows moment uses verdicts upstream given (OnRoute journey) wanted lacking same fits is asks =
+    let route : IsOnRoute (told_at router plugins journey.value.walk.ctx.request moment uses verdicts upstream) journey.value.way journey.value.walk given wanted =
+    fits.at_stage (subst Asks (sym is) asks) in
+    subst (λ one. KnowsRow one.rows journey.value.walk) (sym same) route.known
+asker_is_known router plugins rows moment uses verdicts upstream given (NoRoute request) wanted lacking same fits is asks = tt
+
 -- ---- a visit at either stage
 
 -- the request stays the same
@@ -202,12 +231,6 @@ kept_request rows moment given verdicts (OnRoute before) next (OnRoute now) goes
 kept_request rows moment given verdicts (NoRoute request) next (NoRoute same) goes = goes.0
 kept_request rows moment given verdicts (OnRoute before) next (NoRoute same) goes = absurd goes
 kept_request rows moment given verdicts (NoRoute request) next (OnRoute now) goes = absurd goes
-
--- where a visit stands, by its parts
-abbrev pub Fits : RouterRows → PluginRows → Moment → List Use → List Verdict → Option Upstream → List Answer → Stage → Want → Type 0
-Fits router plugins moment uses verdicts upstream given stage next =
-    FitsTogether (told_at router plugins (request_of stage) moment uses verdicts upstream) given next
-    (IsAtStage (told_at router plugins (request_of stage) moment uses verdicts upstream) stage given next)
 
 -- a visit that isn't lost is under way
 pub not_lost : (router : RouterRows) (plugins : PluginRows) (stage : Stage) (moment : Moment) (uses : List Use) (verdicts : List Verdict) (upstream : Option Upstream) (given : List Answer) (next : Want) (lost : Bool)

@@ -13,7 +13,7 @@ use Rattle.kg_limit.specs.declared.hit.Verdict.{Verdict}
 use Rattle.kg_upstream.specs.UpstreamMessage.{reply_of, way_of}
 use Rattle.kg_upstream.specs.declared.way.Way.{Way}
 use Rattle.kg_course.specs.Plain.{answers, filtered, no_route, start}
-use Rattle.kg_course.specs.Walks.{BeginsWalk, HasCome, IsOver, WantsOnRoute, under_way}
+use Rattle.kg_course.specs.Walks.{BeginsWalk, HasCome, IsOver, KnowsRow, WantsOnRoute, under_way}
 use Rattle.kg_course.specs.Wants.{Asks}
 use Rattle.kg_course.specs.declared.moment.Moment.{Moment}
 use Rattle.kg_course.specs.declared.walk.Walk.{Walk}
@@ -26,7 +26,8 @@ use Rattle.kg_visit.specs.declared.stage.Stage.TheVariants.{OnRoute, NoRoute}
 -- ---- a visit under way
 
 -- the walk is that of the request's route, and has come as far as what was told leads, whatever the upstream
--- answers; what it counted has its verdict; where a message is wanted the plugins are through
+-- answers; what it counted has its verdict; where a message is wanted the plugins are through; the row that asked is
+-- known
 pub record IsOnRoute (told : Told) (way : Way) (walk : Walk) (given : List Answer) (next : Want) : Type 0 where
   pub choice : Choice
   pub is_best : best_choice told.asked.router.services told.asked.router.routes told.asked.request ≡ Some choice
@@ -37,6 +38,7 @@ pub record IsOnRoute (told : Told) (way : Way) (walk : Walk) (given : List Answe
       → HasCome told.asked.plugins.rows told.asked.moment (answers (value_in given) told.verdicts upstream)
       (start choice told.asked.request) walk.taken (under_way told.asked.plugins.rows told.verdicts walk)
   pub over : (message : UpRequest) → next ≡ want.Upstream message → IsOver told.asked.plugins.rows told.asked.moment given told.verdicts walk
+  pub known : KnowsRow told.asked.plugins.rows walk
 
 -- there is a walk, or no route takes the request
 abbrev pub IsAtStage : Told → Stage → List Answer → Want → Type 0
@@ -74,6 +76,11 @@ abbrev pub BeginsStage : Option Way → Request → Stage → Type 0
 BeginsStage (Some way) request (OnRoute journey) = (journey.value.way ≡ way) × BeginsWalk way request journey.value.walk
 BeginsStage None request (NoRoute same) = same.value ≡ request
 BeginsStage _ request _ = ⊥
+
+-- the row that asked is known
+abbrev pub KnowsAsker : List PluginRow → Stage → Type 0
+KnowsAsker rows (OnRoute journey) = KnowsRow rows journey.value.walk
+KnowsAsker rows (NoRoute request) = Unit {0}
 
 -- what is wanted next: without a route the reply that says so
 abbrev pub NextWant : List PluginRow → Moment → List Answer → List Verdict → Stage → Want → Stage → Type 0

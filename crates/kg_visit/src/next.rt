@@ -3,7 +3,7 @@
 ghost use Rattle.std.specs.Prelude.{◌≡◌, [], IfOk, OnOk};
 ghost use Rattle.kg_context.specs.Echo.{echo_of};
 ghost use Rattle.kg_context.specs.declared.upstream.Upstream.TheVariants.{Answered};
-ghost use Rattle.kg_visit.specs.Visits.{BeginsStage, NextWant, RepliesTo};
+ghost use Rattle.kg_visit.specs.Visits.{BeginsStage, KnowsAsker, NextWant, RepliesTo};
 
 use crate::stage::{Journey, Stage};
 use kg_context::{Given, Upstream};
@@ -37,6 +37,7 @@ pub fn first_want(
     moment: Moment,
     stage: &mut Stage,
 ) -> Result<Want, NoMemory>
+    requires known { KnowsAsker plugins.now.rows stage.old }
     ensures { IfOk result (λ want. NextWant plugins.now.rows moment [] [] stage.old want stage.new) }
 {
     let given = Given::new(alloc);
@@ -54,6 +55,7 @@ pub fn renew_want(
     stage: &mut Stage,
     want: &mut Want,
 ) -> Result<(), NoMemory>
+    requires known { KnowsAsker plugins.now.rows stage.old }
     ensures { OnOk result (NextWant plugins.now.rows moment given.now verdicts.now stage.old want.new stage.new) }
 {
     let next = next_want(alloc, plugins, moment, given, verdicts, stage)?;
@@ -70,6 +72,7 @@ fn next_want(
     verdicts: &List<Verdict>,
     stage: &mut Stage,
 ) -> Result<Want, NoMemory>
+    requires known { KnowsAsker plugins.now.rows stage.old }
     ensures { IfOk result (λ want. NextWant plugins.now.rows moment given.now verdicts.now stage.old want stage.new) }
 {
     match stage {
