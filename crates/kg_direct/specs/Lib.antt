@@ -1,1 +1,2 @@
+pub mod EchoText
 pub mod Untouched

@@ -4,10 +4,12 @@
 //! it comes to, without a walk.
 #![tactic(auto)]
 
+mod echo;
 mod laws;
 mod message;
 mod touched;
 
+pub use crate::echo::echo_text;
 pub use crate::laws::untouched_requests_go_straight;
 pub use crate::message::straight_message;
 pub use crate::touched::is_touched;
