@@ -27,7 +27,9 @@ use Rattle.kg_direct.specs.Untouched.{is_touched, straight_message, straight_req
 use Rattle.kg_direct.proofs.UntouchedLemmas.{replies, wants_upstream}
 use Rattle.kg_plain.specs.Driving.{Responds}
 use Rattle.kg_plain.specs.DryReply.{GatewayRows, after_echo, asked_of, counted, every, hits_in, response_in}
-use Rattle.kg_plain.specs.Starts.{StartsSo}
+use Rattle.kg_plain.specs.Starts.{StartsSo, response_of}
+use Rattle.kg_plain.specs.declared.gateway.Answer.{Answer}
+use Rattle.kg_plain.specs.declared.gateway.Answer.TheVariants.{Echo, Reply}
 use Rattle.kg_plain.specs.declared.gateway.Start.TheVariants.{Straight}
 
 -- what is wanted first is no hit
@@ -37,15 +39,15 @@ unfolding counted
 counts_none rows time request next is none = ap hits_in is ∙ none
 
 -- no plugin touches it
-untouched_starts : (rows : GatewayRows) (request : Request) (choice : Choice) (response : Response)
+untouched_starts : (rows : GatewayRows) (request : Request) (choice : Choice) (message : List ℕ)
     → best_choice rows.router.services rows.router.routes request ≡ Some choice → is_touched rows.plugins.rows choice ≡ false
-    → response ≡ reply_of (Answered (echo_of (straight_message choice request))) → StartsSo rows request (Straight response)
-untouched_starts rows request choice response best untouched is = λ hits time.
+    → message ≡ straight_message choice request → StartsSo rows request (Straight (Echo message))
+untouched_starts rows request choice message best untouched is = λ hits time.
     let asked : Asked = asked_of rows time request in
     let entity : Key → Option Value = every rows.declared in
     let verdicts : List Verdict = map (verdict_after hits) (counted rows time request) in
     let answer : Upstream = Answered (echo_of (straight_message choice request)) in (
-      is
+      ap (λ bytes. reply_of (Answered (echo_of bytes))) is
           ∙ ap response_in (sym (replies asked choice entity verdicts answer best untouched))
           ∙ ap (λ next. response_in (after_echo asked entity verdicts next)) (sym (wants_upstream asked choice entity verdicts best untouched)),
       counts_none rows time request (want.Upstream (straight_request choice request)) (wants_upstream asked choice entity [] best untouched) refl,
@@ -53,7 +55,7 @@ untouched_starts rows request choice response best untouched is = λ hits time.
 
 -- no route takes it
 unrouted_starts : (rows : GatewayRows) (request : Request) (response : Response)
-    → best_choice rows.router.services rows.router.routes request ≡ None → response ≡ no_route → StartsSo rows request (Straight response)
+    → best_choice rows.router.services rows.router.routes request ≡ None → response ≡ no_route → StartsSo rows request (Straight (Reply response))
 unrouted_starts rows request response none is = λ hits time.
     let asked : Asked = asked_of rows time request in
     let entity : Key → Option Value = every rows.declared in
@@ -68,28 +70,28 @@ unrouted_starts rows request response none is = λ hits time.
 
 -- its route, whose plugins don't touch it
 pub found_untouched : (rows : GatewayRows) (request : Request) (router : RouterRows) (plugins : PluginRows) (found : Option Found) (choice : Found) (touched : Bool)
-    (message : List ℕ) (response : Response)
+    (message : List ℕ)
     → router ≡ rows.router → plugins ≡ rows.plugins → option_map choice_at found ≡ best_choice router.services router.routes request → found ≡ Some choice
     → touched ≡ is_touched plugins.rows (choice_at choice) → touched ≡ false → message ≡ straight_message (choice_at choice) request
-    → response ≡ reply_of (Answered (echo_of message)) → StartsSo rows request (Straight response)
-found_untouched rows request router plugins found choice touched message response same_router same_plugins best is tests none text echoes =
-    untouched_starts rows request (choice_at choice) response
+    → StartsSo rows request (Straight (Echo message))
+found_untouched rows request router plugins found choice touched message same_router same_plugins best is tests none text =
+    untouched_starts rows request (choice_at choice) message
     (ap (λ (r : RouterRows). best_choice r.services r.routes request) (sym same_router) ∙ sym best ∙ ap (option_map choice_at) is)
     (ap (λ (p : PluginRows). is_touched p.rows (choice_at choice)) (sym same_plugins) ∙ sym tests ∙ none)
-    (echoes ∙ ap (λ bytes. reply_of (Answered (echo_of bytes))) text)
+    text
 
 -- none
 pub found_none : (rows : GatewayRows) (request : Request) (router : RouterRows) (found : Option Found) (response : Response)
     → router ≡ rows.router → option_map choice_at found ≡ best_choice router.services router.routes request → found ≡ None
-    → response ≡ no_route → StartsSo rows request (Straight response)
+    → response ≡ no_route → StartsSo rows request (Straight (Reply response))
 found_none rows request router found response same_router best is none =
     unrouted_starts rows request response
     (ap (λ (r : RouterRows). best_choice r.services r.routes request) (sym same_router) ∙ sym best ∙ ap (option_map choice_at) is) none
 
 -- so the response is there, and nothing was counted
-pub straight_responds : (rows : GatewayRows) (hits : List Hit) (time : ℕ) (request : Request) (response : Response) (windows : Windows)
-    → StartsSo rows request (Straight response) → Represents windows hits → Responds rows hits time request response windows
-straight_responds rows hits time request response windows starts stands =
+pub straight_responds : (rows : GatewayRows) (hits : List Hit) (time : ℕ) (request : Request) (answer : Answer) (windows : Windows)
+    → StartsSo rows request (Straight answer) → Represents windows hits → Responds rows hits time request (response_of answer) windows
+straight_responds rows hits time request answer windows starts stands =
     let is = starts hits time in
     record {
       is = is.0;

@@ -5,20 +5,21 @@ ghost use Rattle.std.specs.Arc.{arc_value};
 ghost use Rattle.kg_limit.specs.Representing.{Represents};
 ghost use Rattle.kg_limit.specs.declared.hit.Hit.{Hit as AHit};
 ghost use Rattle.kg_plain.specs.Driving.{Responds};
-ghost use Rattle.kg_plain.specs.Starts.{IsWayOf, StartsSo};
+ghost use Rattle.kg_plain.specs.Starts.{IsWayOf, StartsSo, response_of};
+ghost use Rattle.kg_print.specs.ReplyText.{reply_text};
 ghost use Rattle.kg_plain.specs.DryReply.{bad_request, bad_request_text, counted, is_bodiless, reply_to};
 ghost use Rattle.kg_visit.specs.Told.{begun};
 
 use crate::drive::drive;
 use kg_course::no_route;
-use kg_direct::{is_touched, straight_message};
+use kg_direct::{echo_text, is_touched, straight_message};
 use kg_entities::Rows;
 use kg_limit::Windows;
 use kg_message::{Request, Response, message};
 use kg_plugin_table::PluginGen;
 use kg_router::RouterGen;
 use kg_text::{Bytes, NoMemory};
-use kg_upstream::{Way, reply_by_echo, way_of};
+use kg_upstream::{Way, way_of};
 use kg_visit::Visit;
 use kg_wire::{Keeping, keeping_of, render_response};
 use std::alloc::Global;
@@ -28,11 +29,19 @@ use std::sync::Arc;
 // The one worker of a dry run.
 const WORKER: u32 = 1;
 
+/// What a request is answered.
+#[derive(Drop)]
+pub(crate) enum Answer {
+    /// What the echo of this message becomes, where no plugin changes it.
+    Echo(Bytes),
+    Reply(Response),
+}
+
 /// What becomes of a request as the router finds its route.
 #[derive(Drop)]
 pub(crate) enum Start {
-    /// No route takes it, or no plugin touches it: it has its response.
-    Straight(Response),
+    /// No route takes it, or no plugin touches it: it has its answer.
+    Straight(Answer),
     /// It goes on this way, over its plugins.
     Touched(Way),
 }
@@ -112,27 +121,30 @@ impl Gateway {
     {
         let bodiless = is_bodiless(&request);
         let keeping = keeping_of(last, &request);
-        let response = self.response(alloc, windows, request, time)?;
-        render_response(alloc, &response, bodiless, keeping)
+        let answer = self.answer(alloc, windows, request, time)?;
+        answer_text(alloc, &answer, bodiless, keeping)
     }
 
-    // The response to the request.
-    fn response(
+    // The answer to the request.
+    fn answer(
         &self,
         alloc: Global,
         windows: &mut Windows,
         request: Request,
         time: u64,
-    ) -> Result<Response, NoMemory>
+    ) -> Result<Answer, NoMemory>
         ensures { (hits : Sequence AHit) → Represents windows.old hits
-            → IfOk result (λ response. Responds self.now hits time request response windows.new) }
+            → IfOk result (λ answer. Responds self.now hits time request (response_of answer) windows.new) }
     {
         match self.start(alloc, &request) {
-            Ok(Start::Straight(response)) => {
+            Ok(Start::Straight(answer)) => {
                 drop(request); // here and below let go by name: a short proof
-                Ok(response)
+                Ok(answer)
             }
-            Ok(Start::Touched(way)) => self.driven(alloc, windows, way, request, time),
+            Ok(Start::Touched(way)) => {
+                let response = self.driven(alloc, windows, way, request, time)?;
+                Ok(Answer::Reply(response))
+            }
             Err(e) => {
                 drop(request);
                 Err(e)
@@ -150,10 +162,10 @@ impl Gateway {
                     Ok(Start::Touched(way_of(alloc, &choice, request)?))
                 } else {
                     let message = straight_message(alloc, &choice, request)?;
-                    Ok(Start::Straight(reply_by_echo(alloc, message)?))
+                    Ok(Start::Straight(Answer::Echo(message)))
                 }
             }
-            None => Ok(Start::Straight(no_route(alloc)?)),
+            None => Ok(Start::Straight(Answer::Reply(no_route(alloc)?))),
         }
     }
 
@@ -216,6 +228,21 @@ impl Gateway {
     {
         let router = Arc::try_clone(&self.router)?;
         Ok((router, Arc::try_clone(&self.plugins)?))
+    }
+}
+
+// The text of the reply that an answer is.
+fn answer_text(
+    alloc: Global,
+    answer: &Answer,
+    bodiless: bool,
+    keeping: Keeping,
+) -> Result<Bytes, NoMemory>
+    ensures { IfOk result (λ text. text ≡ reply_text (response_of answer.now) bodiless keeping) }
+{
+    match answer {
+        Answer::Echo(message) => echo_text(alloc, message, bodiless, keeping),
+        Answer::Reply(response) => render_response(alloc, response, bodiless, keeping),
     }
 }
 
