@@ -1,0 +1,5 @@
+mod CommitLemmas
+mod KeptLemmas
+mod PlanLemmas
+mod StoreLemmas
+mod TouchedLemmas

@@ -1,0 +1,5 @@
+pub mod Answers
+pub mod Histories
+pub mod Observed
+pub mod Plans
+pub mod Stores
