@@ -1,0 +1,2 @@
+pub mod ListQueries
+pub mod Paths
