@@ -1,0 +1,4 @@
+mod AskLemmas
+mod BodyLemmas
+mod CallLemmas
+mod ShownLemmas

@@ -1,0 +1,5 @@
+pub mod AdminAnswers
+pub mod AdminCalls
+pub mod AdminRequests
+pub mod AdminResponses
+pub mod Asking
