@@ -1,0 +1,4 @@
+mod AppendLemmas
+mod LawLemmas
+mod NextLemmas
+mod ServingLemmas

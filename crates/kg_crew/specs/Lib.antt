@@ -1,0 +1,4 @@
+pub mod AdminLaws
+pub mod AdminReplies
+pub mod AdminServing
+pub mod ServingSteps
