@@ -1,0 +1,163 @@
+#!/usr/bin/env bash
+# Measures what one request of the Admin API costs at 100, 10,000 and 100,000 consumers with a key each: GET, POST, PATCH, PUT and
+# DELETE of a consumer and of a key, and a page of 100 consumers.
+# usage: bench/admin.sh [CONSUMERS ..]
+# The stores are served side by side by a program each. In turn each is sent 25 requests of one kind, for rows all over it, and
+# the processor time that it takes for their replies is one sample; a request's time is the median of 40. POSTs are followed by
+# the DELETEs of what they made, so that the stores keep their sizes.
+# Status 1: with more consumers some request takes more than 1.3 times its time with the fewest.
+# The program is built first where it isn't there. It needs python3 and /proc/PID/schedstat.
+set -eu
+root="$(cd "$(dirname "${BASH_SOURCE[0]}")/.." && pwd)"
+"$root/bin/admin_demo" --version > /dev/null
+[ $# -gt 0 ] || set -- 100 10000 100000
+exec python3 - "$root/crates/kg_admin_demo/out/kg_admin_demo" "$@" <<'PYTHON'
+import re
+import statistics
+import subprocess
+import sys
+import threading
+
+PROGRAM, NUMBERS = sys.argv[1], [int(word) for word in sys.argv[2:]]
+MOST_TIMES = 1.3
+BATCH = 25
+ROUNDS = 40
+PAGE = 100
+# what is measured, in the order in which it is asked
+KINDS = [f"{method} {row}" for row in ("consumer", "key") for method in ("GET", "PATCH", "PUT", "POST", "DELETE")]
+KINDS.append("GET page")
+LENGTH = re.compile(rb"content-length: (\d+)\r\n")
+
+
+def request(method, target, body=""):
+    length = f"Content-Length: {len(body)}\r\n" if body else ""
+    return f"{method} {target} HTTP/1.1\r\nHost: x\r\n{length}\r\n{body}".encode()
+
+
+def drawn(number):
+    """The id of the so many-th row that is made."""
+    return f"00000000-0000-4000-8000-{number:012x}"
+
+
+class Store:
+    """A program with so many consumers, each with a key, and what is known of its rows."""
+
+    def __init__(self, consumers):
+        self.consumers = consumers
+        self.keys = [f"k{i}" for i in range(consumers)]
+        self.step = 0
+        words = [PROGRAM, "--requests", "1000000", "--rows", str(consumers + BATCH)]
+        self.run = subprocess.Popen(words, stdin=subprocess.PIPE, stdout=subprocess.PIPE)
+        made = [request("POST", "/consumers", f'{{"username":"c{i}"}}') for i in range(consumers)]
+        made += [request("POST", f"/consumers/c{i}/key-auth", f'{{"key":"k{i}"}}') for i in range(consumers)]
+        self.ask(made, b"201")
+        self.samples = {kind: [] for kind in KINDS}
+        # the number of the turn, and whose keys were made in it
+        self.round = 0
+        self.places = []
+
+    def ask(self, requests, status):
+        """Sends requests and reads their replies, each of which has this status."""
+        # all at once they may be more than the pipes take
+        writer = threading.Thread(target=self.send, args=(b"".join(requests),))
+        writer.start()
+        for _ in requests:
+            head = b""
+            while not head.endswith(b"\r\n\r\n"):
+                line = self.run.stdout.readline()
+                if not line:
+                    sys.exit(f"{PROGRAM} ended with {self.run.wait()}")
+                head += line
+            length = LENGTH.search(head)
+            body = self.run.stdout.read(int(length[1])) if length else b""
+            if not head.startswith(b"HTTP/1.1 " + status):
+                sys.exit(f"{PROGRAM} answered {head} {body[:200]}")
+        writer.join()
+
+    def send(self, text):
+        self.run.stdin.write(text)
+        self.run.stdin.flush()
+
+    def time(self):
+        """The processor time of the program so far, in nanoseconds."""
+        with open(f"/proc/{self.run.pid}/schedstat") as told:
+            return int(told.read().split()[0])
+
+    def measure(self, kind):
+        """Takes one sample of this kind."""
+        chosen = [self.place() for _ in range(BATCH)]
+        news = [f"{self.round}-{i}" for i in range(BATCH)]
+        requests, status = getattr(self, kind.lower().replace(" ", "_"))(chosen, news)
+        before = self.time()
+        self.ask(requests, status)
+        self.samples[kind].append((self.time() - before) / BATCH / 1000)
+
+    def place(self):
+        """A consumer's number, which goes about over all of them."""
+        self.step += 1
+        return self.step * 7919 % self.consumers
+
+    # each of the following gives the requests of a sample, and the status that answers each: of the consumers with the
+    # numbers `chosen`, and by the texts `news`, which no row has
+
+    def get_page(self, chosen, news):
+        after = [drawn(i % max(1, self.consumers - PAGE)) for i in chosen]
+        return [request("GET", f"/consumers?offset={id}&size={PAGE}") for id in after], b"200"
+
+    def get_consumer(self, chosen, news):
+        return [request("GET", f"/consumers/c{i}") for i in chosen], b"200"
+
+    def patch_consumer(self, chosen, news):
+        return [request("PATCH", f"/consumers/c{i}", f'{{"custom_id":"p{n}"}}') for i, n in zip(chosen, news)], b"200"
+
+    def put_consumer(self, chosen, news):
+        body = '{{"username":"c{}","custom_id":"q{}"}}'
+        return [request("PUT", f"/consumers/c{i}", body.format(i, n)) for i, n in zip(chosen, news)], b"200"
+
+    def post_consumer(self, chosen, news):
+        return [request("POST", "/consumers", f'{{"username":"n{n}"}}') for n in news], b"201"
+
+    def delete_consumer(self, chosen, news):
+        return [request("DELETE", f"/consumers/n{n}") for n in news], b"204"
+
+    def get_key(self, chosen, news):
+        return [request("GET", f"/consumers/c{i}/key-auth/{self.keys[i]}") for i in chosen], b"200"
+
+    def patch_key(self, chosen, news):
+        return self.changed_keys("PATCH", "p", chosen, news)
+
+    def put_key(self, chosen, news):
+        return self.changed_keys("PUT", "q", chosen, news)
+
+    def changed_keys(self, method, sort, chosen, news):
+        requests = []
+        for i, n in zip(chosen, news):
+            requests.append(request(method, f"/consumers/c{i}/key-auth/{self.keys[i]}", f'{{"key":"{sort}{n}"}}'))
+            self.keys[i] = f"{sort}{n}"
+        return requests, b"200"
+
+    def post_key(self, chosen, news):
+        self.places = chosen
+        return [request("POST", f"/consumers/c{i}/key-auth", f'{{"key":"n{n}"}}') for i, n in zip(chosen, news)], b"201"
+
+    def delete_key(self, chosen, news):
+        return [request("DELETE", f"/consumers/c{i}/key-auth/n{n}") for i, n in zip(self.places, news)], b"204"
+
+
+stores = [Store(number) for number in NUMBERS]
+for number in range(ROUNDS):
+    for kind in KINDS:
+        for store in stores:
+            store.round = number
+            store.measure(kind)
+failed = False
+for kind in KINDS:
+    times = [statistics.median(store.samples[kind]) for store in stores]
+    most = max(times) / times[NUMBERS.index(min(NUMBERS))]
+    failed = failed or most > MOST_TIMES
+    told = ", ".join(f"{time:.1f} at {store.consumers}" for time, store in zip(times, stores))
+    print(f"{kind}: microseconds {told}: at most {most:.2f} times")
+for store in stores:
+    store.run.stdin.close()
+sys.exit(failed)
+PYTHON
