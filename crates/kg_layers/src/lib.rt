@@ -1,6 +1,4 @@
 //! Where a request gets its values from.
 #![tactic(auto)]
 
-mod level;
-
-pub use crate::level::Level;
+pub use kg_level::Level;

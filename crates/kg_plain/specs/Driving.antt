@@ -7,7 +7,7 @@ use Rattle.kg_message.specs.declared.request.Request.{Request}
 use Rattle.kg_message.specs.declared.response.Response.{Response}
 use Rattle.kg_context.specs.Echo.{echo_of}
 use Rattle.kg_context.specs.declared.upstream.Upstream.TheVariants.{Answered}
-use Rattle.kg_layers.specs.declared.level.Level.TheVariants.{Loaded}
+use Rattle.kg_level.specs.declared.level.Level.TheVariants.{Loaded}
 use Rattle.kg_limit.specs.Judging.{verdict_after}
 use Rattle.kg_limit.specs.Representing.{Represents}
 use Rattle.kg_limit.specs.declared.hit.Hit.{Hit}

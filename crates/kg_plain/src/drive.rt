@@ -10,7 +10,7 @@ ghost use Rattle.kg_visit.specs.Told.{begun, want_after};
 ghost use Rattle.kg_plain.specs.Driving.{AnswersOwn, Begins, RepliesLast, Responds, is_own, use_of};
 
 use crate::gateway::Gateway;
-use kg_layers::Level;
+use kg_level::Level;
 use kg_limit::Windows;
 use kg_message::Response;
 use kg_row_types::key::Key;

@@ -8,7 +8,7 @@ use Rattle.kg_plugin_table.specs.PluginRows.{PluginRows}
 use Rattle.kg_context.specs.Given.{Answer, value_in}
 use Rattle.kg_context.specs.declared.upstream.UpRequest.{UpRequest}
 use Rattle.kg_context.specs.declared.upstream.Upstream.{Upstream}
-use Rattle.kg_layers.specs.declared.level.Level.{Level}
+use Rattle.kg_level.specs.declared.level.Level.{Level}
 use Rattle.kg_limit.specs.declared.hit.Hit.{Hit}
 use Rattle.kg_limit.specs.declared.hit.Verdict.{Verdict}
 use Rattle.kg_course.specs.Plain.{Asked, plain}

@@ -1,6 +1,6 @@
 //! The values that a request used.
 
-use kg_layers::Level;
+use kg_level::Level;
 use kg_row_types::key::Key;
 use kg_row_types::value::Value;
 use std::marker::Model;

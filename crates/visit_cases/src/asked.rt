@@ -6,7 +6,7 @@ ghost use Rattle.kg_row_values.specs.Values.{value_of};
 use crate::request::request_with;
 use case_lines::{Args, put, put_bytes};
 use kg_course::Want;
-use kg_layers::Level;
+use kg_level::Level;
 use kg_limit::{Hit, Windows};
 use kg_plain::Gateway;
 use kg_row_types::id::Id;
