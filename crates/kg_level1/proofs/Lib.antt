@@ -1,0 +1,4 @@
+pub mod CoherenceLemmas
+mod DropLemmas
+pub mod OrderLemmas
+pub mod SyncLemmas

@@ -1,0 +1,5 @@
+pub mod Changing
+pub mod Coherent
+pub mod Commits
+pub mod Entries
+pub mod Reading
