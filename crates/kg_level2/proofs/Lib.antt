@@ -1,0 +1,3 @@
+mod ClaimLemmas
+pub mod CoherenceLemmas
+pub mod HolderLemmas

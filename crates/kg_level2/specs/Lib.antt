@@ -1,0 +1,5 @@
+pub mod Answers
+pub mod Changing
+pub mod Claims
+pub mod Coherent
+pub mod Shared
