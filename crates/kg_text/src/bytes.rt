@@ -1,6 +1,6 @@
 //! Bytes that need not be text.
 
-ghost use Rattle.std.specs.Prelude.{◌≡◌, [], ◌∷◌, ◌++◌, ◌↔◌, IsTrue, IfOk, OnOk, OnErr, Some, length, nat_eq, refl};
+ghost use Rattle.std.specs.Prelude.{◌≡◌, [], ◌∷◌, ◌++◌, ◌↔◌, IsTrue, IfOk, OnOk, OnErr, Some, length, take, nat_eq, refl};
 ghost use Rattle.std.specs.Cmp.Lexicographic.{pointwise, slice_cmp, nat_list_eq_equiv, nat_list_cmp_total, texts_ties, texts_po};
 ghost use Rattle.std.specs.Cmp.{partial_equiv_from_equiv};
 ghost use Rattle.std.specs.Cmp.Rules.{hashing};
@@ -38,6 +38,15 @@ impl Bytes {
         }
     }
 
+    /// No bytes yet, with memory for `len` of them.
+    pub fn with_capacity(alloc: Global, len: usize) -> Result<Bytes, NoMemory>
+        ensures { IfOk result (λ b. b ≡ []) }
+    {
+        Ok(Bytes {
+            bytes: Vec::with_capacity(alloc, len)?,
+        })
+    }
+
     /// A copy of `bytes`.
     pub fn from_slice(alloc: Global, bytes: &[u8]) -> Result<Bytes, NoMemory>
         ensures { IfOk result (λ b. b ≡ bytes.now) }
@@ -60,6 +69,13 @@ impl Bytes {
     {
         let Bytes { bytes } = self;
         bytes
+    }
+
+    /// Drops what stands behind the first `len` bytes.
+    pub fn truncate(&mut self, len: usize)
+        ensures { self.new ≡ take len self.old }
+    {
+        self.bytes.truncate(len);
     }
 
     pub fn as_slice(&self) -> &[u8]

@@ -151,11 +151,10 @@ fn path_of(alloc: Global, target: Bytes) -> Result<Text, NoMemory>
 }
 
 // What stands before the first `?`.
-fn cut_path(target: Bytes) -> Bytes
+fn cut_path(mut target: Bytes) -> Bytes
     ensures { result ≡ target_path target }
 {
     let len = path_len(target.as_slice());
-    let mut path = target.into_vec();
-    path.truncate(len);
-    Bytes::from_vec(path)
+    target.truncate(len);
+    target
 }
