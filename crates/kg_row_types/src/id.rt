@@ -1,13 +1,13 @@
 //! Ids of rows: UUIDs (RFC 9562).
 
-ghost use Rattle.std.specs.Prelude.{◌≡◌, ℕ, ◌<◌, ◌≤◌, ◌^◌, IfOk, Some, length};
+ghost use Rattle.std.specs.Prelude.{◌≡◌, ℕ, ◌<◌, ◌≤◌, ◌^◌, ◌++◌, IfOk, OnOk, Some, length};
 ghost use Rattle.std.specs.Int.{to_be_bytes, w128};
 ghost use Rattle.uuid.specs.Text.{hyphenated_text, lower};
 ghost use Rattle.std.specs.Str.{bytes_eq};
 ghost use Rattle.kg_row_types.specs.Ids.{id_of, printed, drawn_id};
 ghost use Rattle.kg_row_types.specs.Lookups.{printed_id_of};
 
-use kg_text::{NoMemory, Text};
+use kg_text::{Bytes, NoMemory, Text};
 use std::alloc::Global;
 use std::marker::Model;
 use uuid::fmt::Hyphenated;
@@ -81,6 +81,25 @@ impl Id {
         let mut buffer = Uuid::encode_buffer();
         let form = self.uuid().hyphenated();
         Text::from_str(alloc, in_lower_case(&form, &mut buffer))
+    }
+
+    /// Writes the printed id at the end of `out`.
+    #[tactic(auto, unfolding(crate::specs::Ids::printed))]
+    pub fn put_printed(self, out: &mut Bytes) -> Result<(), NoMemory>
+        ensures { OnOk result (out.new ≡ out.old ++ printed self) }
+    {
+        let mut buffer = Uuid::encode_buffer();
+        let form = self.uuid().hyphenated();
+        out.extend_from_slice(in_lower_case(&form, &mut buffer).as_bytes())
+    }
+
+    /// The printed id as bytes: hyphenated, in lower case.
+    pub fn to_bytes(self, alloc: Global) -> Result<Bytes, NoMemory>
+        ensures { IfOk result (λ bytes. bytes ≡ printed self) }
+    {
+        let mut bytes = Bytes::with_capacity(alloc, 36)?;
+        self.put_printed(&mut bytes)?;
+        Ok(bytes)
     }
 
     /// Whether this is the printed id.
