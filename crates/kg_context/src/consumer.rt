@@ -7,10 +7,10 @@ ghost use Rattle.kg_context.specs.Fields.{set_field};
 ghost use Rattle.kg_context.specs.SetConsumer.{credential_field, identifier_of, identity_fields, with_consumer, without_identity};
 
 use crate::context::{Credential, ReqCtx};
-use crate::fields::add_field;
+use crate::fields::{add_field, add_value};
 use kg_message::Headers;
 use kg_row_types::consumer::Consumer;
-use kg_text::{NoMemory, Text, TryClone};
+use kg_text::{Bytes, NoMemory, Text, TryClone};
 use std::alloc::Global;
 
 /// Makes the request this consumer's: what it told of a consumer before is dropped, and the upstream is told of
@@ -51,8 +51,12 @@ fn add_identity(
 ) -> Result<(), NoMemory>
     ensures { OnOk result (headers.new ≡ headers.old ++ identity_fields consumer.now credential.now) }
 {
-    let id = consumer.id.to_text(alloc)?;
-    add_field(alloc, headers, b"x-consumer-id", id.as_bytes())?;
+    add_value(
+        alloc,
+        headers,
+        b"x-consumer-id",
+        consumer.id.to_bytes(alloc)?,
+    )?;
     add_set(alloc, headers, b"x-consumer-custom-id", &consumer.custom_id)?;
     add_set(alloc, headers, b"x-consumer-username", &consumer.username)?;
     add_credential(alloc, headers, credential)
@@ -85,23 +89,18 @@ fn add_credential(
     match credential {
         Some(credential) => {
             let identifier = identifier_of(alloc, credential)?;
-            add_field(
-                alloc,
-                headers,
-                b"x-credential-identifier",
-                identifier.as_bytes(),
-            )
+            add_value(alloc, headers, b"x-credential-identifier", identifier)
         }
         None => add_field(alloc, headers, b"x-anonymous-consumer", b"true"),
     }
 }
 
 // What a credential is known by: a key by its id, a password by its username.
-fn identifier_of(alloc: Global, credential: &Credential) -> Result<Text, NoMemory>
-    ensures { IfOk result (λ text. text ≡ identifier_of credential.now) }
+fn identifier_of(alloc: Global, credential: &Credential) -> Result<Bytes, NoMemory>
+    ensures { IfOk result (λ identifier. identifier ≡ identifier_of credential.now) }
 {
     match credential {
-        Credential::Key(cred) => cred.id.to_text(alloc),
-        Credential::Basic(cred) => cred.username.try_clone(alloc),
+        Credential::Key(cred) => cred.id.to_bytes(alloc),
+        Credential::Basic(cred) => Bytes::from_slice(alloc, cred.username.as_bytes()),
     }
 }

@@ -11,7 +11,7 @@ use kg_message::Headers;
 use kg_text::{Bytes, Name, NoMemory, Text};
 use std::alloc::Global;
 
-/// Adds a field at the end. The name is a token, and is kept in lower case.
+/// Adds a field of a copy of this value at the end. The name is a token, and is kept in lower case.
 pub fn add_field(
     alloc: Global,
     headers: &mut Headers,
@@ -21,11 +21,20 @@ pub fn add_field(
     requires { IsTrue (is_token name.now) }
     ensures { OnOk result (headers.new ≡ added (field (str_to_ascii_lowercase name.now) value.now) headers.old) }
 {
-    headers.add(
-        alloc,
-        Name::of_token(alloc, name)?,
-        Bytes::from_slice(alloc, value)?,
-    )
+    add_value(alloc, headers, name, Bytes::from_slice(alloc, value)?)
+}
+
+/// Adds a field of this value at the end. The name is a token, and is kept in lower case.
+pub(crate) fn add_value(
+    alloc: Global,
+    headers: &mut Headers,
+    name: &[u8],
+    value: Bytes,
+) -> Result<(), NoMemory>
+    requires { IsTrue (is_token name.now) }
+    ensures { OnOk result (headers.new ≡ added (field (str_to_ascii_lowercase name.now) value) headers.old) }
+{
+    headers.add(alloc, Name::of_token(alloc, name)?, value)
 }
 
 /// The texts with a separator between each two.
