@@ -1,7 +1,6 @@
 mod CountLemmas
 mod FieldLemmas
 mod HitLemmas
-mod IdLemmas
 mod MemoryLemmas
 mod WindowLemmas
 mod ZipLemmas

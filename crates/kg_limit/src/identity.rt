@@ -1,6 +1,6 @@
 //! Which requests are counted together.
 
-ghost use Rattle.std.specs.Prelude.{◌≡◌, ◌++◌, ◌∷◌, [], ◌≤◌, length, IfOk, OnOk, codes, decimal};
+ghost use Rattle.std.specs.Prelude.{◌≡◌, ◌++◌, ◌∷◌, [], IfOk, OnOk, codes, decimal};
 ghost use Rattle.std.specs.Net.Text.{ipv4_text};
 ghost use Rattle.kg_row_types.specs.Ids.{printed};
 ghost use Rattle.kg_limit.specs.Hits.{address_identity, identity_of};
@@ -11,7 +11,6 @@ use kg_row_types::config::LimitBy;
 use kg_row_types::id::Id;
 use kg_text::{Bytes, NoMemory};
 use std::alloc::Global;
-use uuid::Uuid;
 
 /// What the requests have in common that are counted together with this one: a letter and the consumer's id, the
 /// client's address or the service's id.
@@ -32,33 +31,17 @@ pub(crate) fn identity_of(alloc: Global, by: LimitBy, ctx: &ReqCtx) -> Result<By
 fn of_id(alloc: Global, letter: u8, id: Id) -> Result<Bytes, NoMemory>
     ensures { IfOk result (λ identity. identity ≡ letter ∷ printed id) }
 {
-    let mut identity = Bytes::from_vec(Vec::with_capacity(alloc, 37)?);
+    let mut identity = Bytes::with_capacity(alloc, 37)?;
     identity.push(letter)?;
-    put_id(&mut identity, id)?;
+    id.put_printed(&mut identity)?;
     Ok(identity)
-}
-
-fn put_id(out: &mut Bytes, id: Id) -> Result<(), NoMemory>
-    ensures { OnOk result (out.new ≡ out.old ++ printed id) }
-{
-    let mut buffer = Uuid::encode_buffer();
-    out.extend_from_slice(printed(id, &mut buffer).as_bytes())
-}
-
-fn printed(id: Id, buffer: &mut [u8]) -> &str
-    requires { 36 ≤ length buffer.old }
-    ensures { result.now ≡ printed id }
-{
-    Uuid::from_u128(id.number())
-        .hyphenated()
-        .encode_lower(buffer)
 }
 
 // The letter of addresses and this one, in dotted decimal.
 fn of_address(alloc: Global, address: [u8; 4]) -> Result<Bytes, NoMemory>
     ensures { IfOk result (λ identity. identity ≡ codes "i" ++ ipv4_text address) }
 {
-    let mut identity = Bytes::from_vec(Vec::with_capacity(alloc, 16)?);
+    let mut identity = Bytes::with_capacity(alloc, 16)?;
     identity.push(b'i')?;
     put_address(&mut identity, address)?;
     Ok(identity)
