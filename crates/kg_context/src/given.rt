@@ -4,6 +4,7 @@ ghost use Rattle.std.specs.Prelude.{◌≡◌, ◌++◌, ◌∷◌, [], None, Is
 ghost use Rattle.std.specs.Arc.{arc_value};
 ghost use Rattle.std.specs.Option.{option_copied};
 ghost use Rattle.kg_row_types.specs.Values.{answers_key};
+ghost use Rattle.kg_row_types.specs.declared.key.Key.TheVariants.{Cred};
 ghost use Rattle.kg_context.specs.Given.{same_key, value_in};
 
 use kg_row_types::key::Key;
@@ -65,6 +66,16 @@ impl Given {
         }
     }
 
+    /// The value of the credential with this key, where it has been given.
+    pub fn get_cred(&self, key: &str) -> Option<&Value>
+        ensures { option_copied result ≡ value_in self.now (Cred key.now) }
+    {
+        match self.find_cred(key) {
+            Some(entry) => Some(&*entry.value),
+            None => None,
+        }
+    }
+
     fn find(&self, key: &Key) -> Option<&Entry>
         ensures { option_copied result ≡ find (λ answer. same_key answer.key key.now) self.now }
     {
@@ -72,6 +83,15 @@ impl Given {
             .as_slice()
             .iter()
             .find(|entry| is_same_key(&entry.key, key))
+    }
+
+    fn find_cred(&self, key: &str) -> Option<&Entry>
+        ensures { option_copied result ≡ find (λ answer. same_key answer.key (Cred key.now)) self.now }
+    {
+        self.entries
+            .as_slice()
+            .iter()
+            .find(|entry| is_cred(&entry.key, key))
     }
 
     /// Adds the value of a key that has none yet.
@@ -82,6 +102,16 @@ impl Given {
         ensures err { OnErr result (self.new ≡ self.old) }
     {
         self.entries.push(Entry { key, value })
+    }
+}
+
+// Does this ask for the credential with that key?
+fn is_cred(asked: &Key, key: &str) -> bool
+    ensures { result ≡ same_key asked.now (Cred key.now) }
+{
+    match asked {
+        Key::Cred(text) => text.as_bytes() == key.as_bytes(),
+        _ => false,
     }
 }
 
