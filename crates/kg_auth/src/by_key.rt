@@ -105,9 +105,8 @@ fn search_by_text<'a>(
 ) -> Result<Search<'a>, NoMemory>
     ensures { IfOk result (λ search. Finds (of_text anonymous.now text.now) given.now search) }
 {
-    let key = Key::Cred(Text::from_str(alloc, text)?);
-    match given.get(&key) {
-        None => Ok(Search::Asks(key)),
+    match given.get_cred(text) {
+        None => Ok(Search::Asks(Key::Cred(Text::from_str(alloc, text)?))),
         Some(value) => search_by_credential(alloc, anonymous, value, given),
     }
 }
