@@ -16,7 +16,8 @@ pub fn path_for(alloc: Global, choice: &Choice<'_>, request: &Request) -> Result
 {
     let base = base_path(choice.service);
     let rest = rest_of(choice, request.path.as_bytes());
-    let mut path = Bytes::new(alloc);
+    let room = base.len().saturating_add(rest.len()).saturating_add(1);
+    let mut path = Bytes::with_capacity(alloc, room)?;
     put_path(&mut path, base, rest)?;
     Ok(path)
 }
