@@ -21,7 +21,7 @@ pub record Represents (windows : Windows) (hits : List Hit) : Type 0 where
 -- the room is for this hit
 pub record IsRoomFor (table : CountTable) (hit : Hit) (room : Room) : Type 0 where
   pub entry : StandsAt table (key_of hit.row hit.identity) room.at
-  pub left : room.left.items ≡ hit.limits
+  pub left : room.left ≡ hit.limits
 
 -- there is room for one more hit, which is this one
 pub record HasRoom (windows : Windows) (hit : Hit) : Type 0 where

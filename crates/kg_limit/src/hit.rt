@@ -1,14 +1,15 @@
 //! Requests that are counted, and verdicts on them.
 
-ghost use Rattle.std.specs.Prelude.{◌≡◌, ◌++◌, IfOk, OnOk};
+ghost use Rattle.std.specs.Prelude.{◌≡◌, ◌+◌, ◌<◌, ◌≤◌, ◌++◌, IfOk, length};
 ghost use Rattle.kg_limit.specs.Hits.{hit_of, limit_in, limits_of};
 
 use crate::identity::identity_of;
+use crate::limits::Limits;
 use crate::window::Window;
 use kg_context::ReqCtx;
 use kg_row_types::config::RateLimiting;
 use kg_row_types::id::Id;
-use kg_text::{Bytes, List, NoMemory};
+use kg_text::{Bytes, NoMemory};
 use std::alloc::Global;
 
 /// A request that is to be counted.
@@ -19,7 +20,7 @@ pub struct Hit {
     /// With which requests it is counted together.
     pub identity: Bytes,
     /// How many requests may come in which windows, from the shortest on.
-    pub limits: List<(Window, u64)>,
+    pub limits: Limits,
     /// The clock's reading in milliseconds.
     pub now: u64,
     /// The worker's number.
@@ -35,7 +36,7 @@ pub struct Verdict {
     pub time: u64,
     pub let_through: bool,
     /// How many further requests may come in each window.
-    pub left: List<(Window, u64)>,
+    pub left: Limits,
 }
 
 /// The hit of a request at the row of a plugin. `now` is the clock's reading in milliseconds, `who` the number of
@@ -51,37 +52,34 @@ pub fn hit_of(
     ensures { IfOk result (λ hit. hit ≡ hit_of config.now row ctx.now now who) }
 {
     let identity = identity_of(alloc, config.limit_by, ctx)?;
-    let limits = limits_of(alloc, config)?;
     Ok(Hit {
         row,
         identity,
-        limits,
+        limits: limits_of(config),
         now,
         who,
     })
 }
 
 // The limits that are set, from the shortest window on.
-fn limits_of(alloc: Global, config: &RateLimiting) -> Result<List<(Window, u64)>, NoMemory>
-    ensures { IfOk result (λ limits. limits ≡ limits_of config.now) }
+fn limits_of(config: &RateLimiting) -> Limits
+    ensures { result ≡ limits_of config.now }
 {
-    let mut limits = List::from_vec(Vec::with_capacity(alloc, 4)?);
-    add_limit(&mut limits, Window::Second, config.second)?;
-    add_limit(&mut limits, Window::Minute, config.minute)?;
-    add_limit(&mut limits, Window::Hour, config.hour)?;
-    add_limit(&mut limits, Window::Day, config.day)?;
-    Ok(limits)
+    let mut limits = Limits::new();
+    add_limit(&mut limits, Window::Second, config.second);
+    add_limit(&mut limits, Window::Minute, config.minute);
+    add_limit(&mut limits, Window::Hour, config.hour);
+    add_limit(&mut limits, Window::Day, config.day);
+    limits
 }
 
-fn add_limit(
-    limits: &mut List<(Window, u64)>,
-    window: Window,
-    limit: Option<u64>,
-) -> Result<(), NoMemory>
-    ensures { OnOk result (limits.new ≡ limits.old ++ limit_in window limit) }
+fn add_limit(limits: &mut Limits, window: Window, limit: Option<u64>)
+    requires { length limits.old < 4 }
+    ensures value { limits.new ≡ limits.old ++ limit_in window limit }
+    ensures within { length limits.new ≤ length limits.old + 1 }
 {
     match limit {
         Some(limit) => limits.push((window, limit)),
-        None => Ok(()),
+        None => {}
     }
 }

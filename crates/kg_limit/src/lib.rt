@@ -6,12 +6,14 @@ mod count_table;
 mod counts;
 mod hit;
 mod identity;
+mod limits;
 mod quota;
 mod reply;
 mod window;
 mod windows;
 
 pub use crate::hit::{Hit, Verdict, hit_of};
+pub use crate::limits::Limits;
 pub use crate::reply::{limit_headers, refusal};
 pub use crate::window::Window;
 pub use crate::windows::Windows;

@@ -1,18 +1,19 @@
 //! Counting hits and judging them.
 
-ghost use Rattle.std.specs.Prelude.{◌≡◌, ◌<◌, List as Sequence, [], ◌∷◌, ◌++◌, IfOk, OnOk, map};
+ghost use Rattle.std.specs.Prelude.{◌≡◌, ◌<◌, List as Sequence, [], ◌∷◌, ◌++◌, IfOk, OnOk};
 ghost use Rattle.std.specs.List.{list_all};
 ghost use Rattle.indexmap.specs.IndexMap.{index_map_len};
-ghost use Rattle.kg_limit.specs.Counting.{Counted, TellsSame, is_free, left_after};
-ghost use Rattle.kg_limit.specs.Judging.{left_of, verdict_after};
+ghost use Rattle.kg_limit.specs.Counting.{Counted, TellsSame, is_free};
+ghost use Rattle.kg_limit.specs.Judging.{verdict_after};
 ghost use Rattle.kg_limit.specs.Representing.{HasRoom, IsRoomFor, Represents};
 ghost use Rattle.kg_limit.specs.declared.hit.Hit.{Hit as AHit};
 
 use crate::count_table::CountTable;
 use crate::counts::Counts;
 use crate::hit::{Hit, Verdict};
+use crate::limits::Limits;
 use crate::window::Window;
-use kg_text::{List, NoMemory};
+use kg_text::NoMemory;
 use std::alloc::Global;
 
 /// The greatest number of hits.
@@ -24,7 +25,7 @@ pub(crate) struct Room {
     /// The index of the hit's entry.
     pub(crate) at: usize,
     /// The hit's limits, in whose place comes what is left of them.
-    pub(crate) left: Vec<(Window, u64)>,
+    pub(crate) left: Limits,
 }
 
 /// The hits so far, as numbers: how many of each row and identity were let through in each window. Contracts say of
@@ -75,20 +76,21 @@ impl Windows {
         requires { HasRoom self.old hit.now }
         ensures { (hits : Sequence AHit) → Represents self.old hits → (result ≡ verdict_after hits hit.entry.now) × Represents self.new (hits ++ hit.entry.now ∷ []) }
     {
-        let Some(Room { at, left }) = self.room.take() else {
+        let Some(Room { at, mut left }) = self.room.take() else {
             unreachable!()
         };
         let time = self.time.max(hit.now);
         let counts = self.table.at(at);
         let let_through = is_let_through(&counts, time, left.as_slice());
         count(&mut self.table, at, &counts, time, let_through);
+        left.count_down(&counts, time, let_through);
         self.time = time;
         self.place += 1;
         Verdict {
             place: self.place,
             time,
             let_through,
-            left: left_of_limits(&counts, time, let_through, left),
+            left,
         }
     }
 }
@@ -101,8 +103,10 @@ fn room_for(alloc: Global, table: &mut CountTable, time: u64, hit: &Hit) -> Resu
     table.give_back(time);
     table.give_back(time);
     let at = table.place_of(alloc, hit.row, &hit.identity)?;
-    let left = Vec::from_slice(alloc, hit.limits.as_slice())?;
-    Ok(Room { at, left })
+    Ok(Room {
+        at,
+        left: hit.limits.copy(),
+    })
 }
 
 // Were fewer let through than may be, in each window in which a time lies?
@@ -121,33 +125,5 @@ fn count(table: &mut CountTable, at: usize, counts: &Counts, time: u64, let_thro
 {
     if let_through {
         table.set(at, counts.with_hit(time));
-    }
-}
-
-// Puts in the place of each limit what is left of it.
-fn left_of_limits(
-    counts: &Counts,
-    time: u64,
-    let_through: bool,
-    limits: Vec<(Window, u64)>,
-) -> List<(Window, u64)>
-    ensures { result ≡ map (left_after counts.now time let_through) limits.items }
-{
-    let mut left = limits;
-    for limit in left.iter_mut() {
-        limit.1 = left_of(let_through, counts.used(limit.0, time), limit.1);
-    }
-    List::from_vec(left)
-}
-
-// How many further ones may be let through.
-fn left_of(let_through: bool, used: u64, limit: u64) -> u64
-    ensures { result ≡ left_of let_through used limit }
-{
-    let unused = limit.saturating_sub(used);
-    if let_through {
-        unused.saturating_sub(1)
-    } else {
-        unused
     }
 }

@@ -1,10 +1,10 @@
 //! Hits, and the verdicts on them.
 
 use case_lines::{Args, put, put_bytes, put_number, put_unknown, split};
-use kg_limit::{Hit, Verdict, Window, Windows, limit_headers};
+use kg_limit::{Hit, Limits, Verdict, Window, Windows, limit_headers};
 use kg_message::{Headers, Response};
 use kg_row_types::id::Id;
-use kg_text::{Bytes, List, NoMemory};
+use kg_text::{Bytes, NoMemory};
 use std::alloc::Global;
 
 /// Adds what becomes of hits that come one after another, behind none.
@@ -87,7 +87,7 @@ fn put_fields(out: &mut String, headers: &Headers) -> Result<(), NoMemory> {
 fn hit_of(alloc: Global, limits: &str, text: &str) -> Result<Hit, NoMemory> {
     let (row, rest) = split(text, " ");
     let (identity, now) = split(rest, " ");
-    let limits = limits_of(alloc, limits)?;
+    let limits = limits_of(limits);
     hit_with(
         alloc,
         row,
@@ -101,7 +101,7 @@ fn hit_with(
     alloc: Global,
     row: &str,
     identity: &[u8],
-    limits: List<(Window, u64)>,
+    limits: Limits,
     now: u64,
 ) -> Result<Hit, NoMemory> {
     match Bytes::from_slice(alloc, identity) {
@@ -124,17 +124,19 @@ fn row_of(number: &str) -> Id {
     Id::from_drawn([0, 0, 0, 0, 0, 0, 0, 0, 0, 0, 0, 0, 0, 0, 0, last])
 }
 
-// The limits that are written as windows, each with its number.
-fn limits_of(alloc: Global, text: &str) -> Result<List<(Window, u64)>, NoMemory> {
-    let mut limits = List::new(alloc);
+// The limits that are written as windows, each with its number: the first four.
+fn limits_of(text: &str) -> Limits {
+    let mut limits = Limits::new();
     for limit in text.split(", ") {
         let (window, number) = split(limit, " ");
         match window_of(window) {
-            Some(window) => limits.push((window, number.parse().unwrap_or(0)))?,
-            None => {}
+            Some(window) if !limits.is_full() => {
+                limits.push((window, number.parse().unwrap_or(0)));
+            }
+            _ => {}
         }
     }
-    Ok(limits)
+    limits
 }
 
 fn window_of(word: &str) -> Option<Window> {
@@ -171,7 +173,7 @@ fn is_through(
 ) -> Result<bool, NoMemory> {
     let identity = place % number_of(args, 1).max(1);
     let now = place.saturating_mul(number_of(args, 2));
-    let limits = limits_of(alloc, args.text(3))?;
+    let limits = limits_of(args.text(3));
     let hit = hit_with(alloc, "1", &identity.to_be_bytes(), limits, now)?;
     let verdict = judge(alloc, windows, &hit)?;
     Ok(verdict.let_through)

@@ -15,9 +15,9 @@ returns c =
     let room : IsRoomFor windows.table hit c.in-Some.field-0 =
     subst (λ r. IsSomeAnd r (IsRoomFor windows.table hit)) (sym c.take.ensures.value ∙ c.in-Some.is) c.requires.room in
     let there = c.at-counts.ensures.kept (key_of hit.row hit.identity) room.entry in
-    let limits = c.as_slice.ensures.value ∙ room.left in
+    let limits = c.as_slice.ensures ∙ room.left in
     let through = c.is_let_through-let_through.ensures ∙ ap (list_all (is_free counts time)) limits in
-    let left = c.left_of_limits.ensures ∙ (λ i. map (left_after counts time (through i)) (room.left i)) in
+    let left = c.count_down.ensures ∙ (λ i. map (left_after counts time (through i)) (room.left i)) in
     λ hits is. (
       (λ i. record { place = windows.place + 1; time = time; let_through = through i; left = left i })
           ∙ verdict_is windows hits hit counts time is c.max-time.ensures there,
