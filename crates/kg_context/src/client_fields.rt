@@ -25,11 +25,15 @@ const STATED_NAMES: [&str; 13] = [
     "x-anonymous-consumer",
 ];
 
-/// A copy of those of a client's fields that the gateway passes on.
+// Memory for fields that plugins add: those of a consumer with a credential, and of its groups.
+const ADDED_FIELDS: usize = 5;
+
+/// A copy of those of a client's fields that the gateway passes on, with memory for those of a consumer.
 pub fn upstream_fields(alloc: Global, headers: &Headers) -> Result<Headers, NoMemory>
     ensures { IfOk result (λ fields. fields ≡ upstream_fields headers.now) }
 {
-    let mut fields = Headers::new(alloc);
+    let room = headers.len().saturating_add(ADDED_FIELDS);
+    let mut fields = Headers::with_capacity(alloc, room)?;
     for field in headers.as_slice() {
         if goes_upstream(headers, field) {
             fields.add(

@@ -25,7 +25,7 @@ pub fn add_field(
 }
 
 /// Adds a field of this value at the end. The name is a token, and is kept in lower case.
-pub(crate) fn add_value(
+pub fn add_value(
     alloc: Global,
     headers: &mut Headers,
     name: &[u8],

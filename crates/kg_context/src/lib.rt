@@ -18,7 +18,7 @@ pub use crate::client_fields::upstream_fields;
 pub use crate::consumer::set_consumer;
 pub use crate::context::{Credential, ReqCtx, pairs_of};
 pub use crate::echo::echo_of;
-pub use crate::fields::{add_field, joined};
+pub use crate::fields::{add_field, add_value, joined};
 pub use crate::given::Given;
 pub use crate::pairs::{add_pair, has_pair, remove_pairs, rename_pairs, replace_pairs};
 pub use crate::step::AccessStep;
