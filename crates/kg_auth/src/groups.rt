@@ -8,7 +8,7 @@ ghost use Rattle.kg_context.specs.Rule.{KeepsWhereAsked, access, after_step};
 ghost use Rattle.kg_context.specs.declared.context.ReqCtx.{ReqCtx as Context};
 ghost use Rattle.kg_auth.specs.AclRule.{acl, groups_in, is_one_listed, judged, may_pass, with_groups};
 
-use kg_context::{AccessStep, Given, ReqCtx, add_field, joined};
+use kg_context::{AccessStep, Given, ReqCtx, add_value, joined};
 use kg_message::message;
 use kg_row_types::config::Acl;
 use kg_row_types::key::Key;
@@ -93,12 +93,7 @@ fn tell_groups(
         return Ok(());
     }
     let value = joined(alloc, b", ", groups)?;
-    add_field(
-        alloc,
-        &mut ctx.headers,
-        b"x-consumer-groups",
-        value.as_slice(),
-    )
+    add_value(alloc, &mut ctx.headers, b"x-consumer-groups", value)
 }
 
 // The groups that a value tells.
