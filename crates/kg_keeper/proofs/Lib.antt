@@ -1,5 +1,5 @@
 mod CommitLemmas
 mod KeptLemmas
-mod PlanLemmas
+pub mod PlanLemmas
 mod StoreLemmas
 mod TouchedLemmas

@@ -4,7 +4,7 @@ use Rattle.std.specs.List.{range_with_len}
 use Rattle.kg_keeper.specs.Observed.{after_call}
 use Rattle.kg_outside.specs.Counts.{one_more}
 
--- how many calls there were, how many of them failed, how many of the next ones fail, and the numbers of
+-- how many calls there were since the plan was made, how many failed, how many of the next ones fail, and the numbers of
 -- further ones that fail, the next call being 1
 pub record Planned : Type 0 where
   pub calls : ℕ

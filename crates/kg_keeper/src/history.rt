@@ -4,7 +4,7 @@ ghost use Rattle.std.specs.Prelude.{◌≡◌, ◌<◌, ◌≤◌, ◌+◌, [], 
 ghost use Rattle.std.specs.Vec.{vec_capacity, vec_len};
 ghost use Rattle.kg_keeper.specs.Answers.{AreEvents, AreFromValidRows, decision_at, generation_in, most_commits, page_got, row_put};
 ghost use Rattle.kg_keeper.specs.Histories.{IsAdded};
-ghost use Rattle.kg_row_changes.specs.Allowed.{is_allowed};
+ghost use Rattle.kg_row_changes.specs.Allowed.{is_allowed, is_consistent};
 ghost use Rattle.kg_row_changes.specs.ValidCommands.{IsValidCommand};
 ghost use Rattle.kg_row_queries.specs.Pages.{page_of};
 ghost use Rattle.kg_row_queries.specs.Selections.{found};
@@ -17,8 +17,8 @@ use crate::feed::{Feed, gens_of, keys_of, put_last};
 use crate::generation::rows_of;
 use kg_entities::{Entity, GenKey, Key, Kind, Rows};
 use kg_rows::{
-    Command, DecideError, Draft, Page, Parent, Refusal, Select, allowed_commands_make_valid_rows,
-    apply, decide, found, page_of, value_of,
+    Command, DecideError, Draft, Page, Parent, Refusal, Select, apply, decide, found, page_of,
+    value_of,
 };
 use kg_text::{List, NoMemory, TryClone};
 use std::alloc::Global;
@@ -27,49 +27,56 @@ use std::marker::Model;
 /// How many commits a history may have.
 const MOST_COMMITS: u64 = 4_294_967_295;
 
-/// The commands of a store. Contracts see them, and how many rows a kind may have.
+/// The commands of a store, the rows after them, and what each touched. Contracts see the commands.
 #[derive(Drop)]
-pub(crate) struct History {
+pub struct History {
     rows: Rows,
     commands: Vec<Command>,
     feed: Feed,
-    limit: u32,
 }
 
 impl Model for History {
-    ghost use Rattle.kg_keeper.specs.Histories.{IsKept, Recorded};
+    ghost use Rattle.std.specs.Prelude.{List as Sequence};
+    ghost use Rattle.kg_keeper.specs.Histories.{IsKept};
+    ghost use Rattle.kg_row_values.specs.declared.command.Command.{Command as ACommand};
 
-    ghost Value = { Recorded };
+    ghost Value = { Sequence ACommand };
 
-    ghost view = { λ history. record { commands = history.commands.items; limit = history.limit } };
+    ghost view = { λ history. history.commands.items };
 
-    ghost invariant = { λ history. IsKept history.commands.items history.limit history.rows history.feed.touched.items };
+    ghost invariant = { λ history. IsKept history.commands.items history.rows history.feed.touched.items };
 }
 
 impl History {
-    /// No commands yet; a kind may have so many rows. It takes no memory.
-    pub(crate) fn new(alloc: Global, limit: u32) -> History
-        ensures { result ≡ record { commands = []; limit = limit } }
+    /// No commands yet. It takes no memory.
+    pub fn new(alloc: Global) -> History
+        ensures { result ≡ [] }
     {
         History {
             rows: Rows::new(alloc),
             commands: Vec::new(alloc),
             feed: Feed::new(alloc),
-            limit,
         }
     }
 
     /// How many commands there are.
-    pub(crate) fn len(&self) -> u64
-        ensures len { result ≡ length self.now.commands }
+    pub fn len(&self) -> u64
+        ensures len { result ≡ length self.now }
         ensures most { result ≤ most_commits }
     {
         self.commands.len() as u64
     }
 
+    /// The commands, from the first commit on.
+    pub fn commands(&self) -> &[Command]
+        ensures { result.now ≡ self.now }
+    {
+        self.commands.as_slice()
+    }
+
     /// The value of a key.
-    pub(crate) fn load(&self, alloc: Global, key: &Key) -> Result<Loaded, NoMemory>
-        ensures { IfOk result (λ loaded. loaded ≡ record { value = value_at key.now self.now.commands; at = length self.now.commands }) }
+    pub fn load(&self, alloc: Global, key: &Key) -> Result<Loaded, NoMemory>
+        ensures { IfOk result (λ loaded. loaded ≡ record { value = value_at key.now self.now; at = length self.now }) }
     {
         let value = value_of(alloc, &self.rows, key)?;
         Ok(Loaded {
@@ -79,12 +86,11 @@ impl History {
     }
 
     /// The rows of a generation.
-    pub(crate) fn load_rows(&self, alloc: Global, which: GenKey) -> Result<LoadedRows, NoMemory>
-        ensures place { IfOk result (λ loaded. loaded.at ≡ length self.now.commands) }
-        ensures rows { IfOk result (λ loaded. generation_in loaded.rows ≡ generation_at which self.now.commands) }
+    pub fn load_rows(&self, alloc: Global, which: GenKey) -> Result<LoadedRows, NoMemory>
+        ensures place { IfOk result (λ loaded. loaded.at ≡ length self.now) }
+        ensures rows { IfOk result (λ loaded. generation_in loaded.rows ≡ generation_at which self.now) }
         ensures valid { IfOk result (λ loaded. AreFromValidRows which loaded.rows) }
     {
-        allowed_commands_make_valid_rows(); // a law, called for the proof
         let rows = rows_of(alloc, &self.rows, which)?;
         Ok(LoadedRows {
             rows,
@@ -93,15 +99,15 @@ impl History {
     }
 
     /// The keys and the generations that the commits after the first `from` touched, up to number `to`.
-    pub(crate) fn events(
+    pub fn events(
         &self,
         alloc: Global,
         from: u64,
         to: u64,
     ) -> Result<(List<List<Key>>, List<List<GenKey>>), NoMemory>
         requires order { from ≤ to }
-        requires within { to ≤ length self.now.commands }
-        ensures { IfOk result (λ lists. AreEvents self.now.commands from to lists.0 lists.1) }
+        requires within { to ≤ length self.now }
+        ensures { IfOk result (λ lists. AreEvents self.now from to lists.0 lists.1) }
     {
         let touched = self.feed.between(from as usize, to as usize);
         let keys = keys_of(alloc, touched)?;
@@ -115,14 +121,14 @@ impl History {
     }
 
     /// One row of a kind, among all or among those under a parent.
-    pub(crate) fn find(
+    pub fn find(
         &self,
         alloc: Global,
         kind: Kind,
         parent: &Option<Parent>,
         select: &Select,
     ) -> Result<Seen, NoMemory>
-        ensures { IfOk result (λ seen. seen ≡ record { row = found kind parent.now select.now (rows_after self.now.commands); at = length self.now.commands }) }
+        ensures { IfOk result (λ seen. seen ≡ record { row = found kind parent.now select.now (rows_after self.now); at = length self.now }) }
     {
         let at = self.len();
         // no `?` beside a row: a short proof
@@ -133,8 +139,8 @@ impl History {
     }
 
     /// A page of rows.
-    pub(crate) fn page(&self, alloc: Global, ask: &PageAsk) -> Result<PageGot, NoMemory>
-        ensures { IfOk result (λ got. got ≡ page_got (page_of ask.now.kind ask.now.parent ask.now.after ask.now.size (rows_after self.now.commands)) (length self.now.commands)) }
+    pub fn page(&self, alloc: Global, ask: &PageAsk) -> Result<PageGot, NoMemory>
+        ensures { IfOk result (λ got. got ≡ page_got (page_of ask.now.kind ask.now.parent ask.now.after ask.now.size (rows_after self.now)) (length self.now)) }
     {
         let at = self.len();
         match page_of(
@@ -150,14 +156,21 @@ impl History {
         }
     }
 
-    /// Decides a change, and adds the command that makes it. Without one nothing changes.
-    pub(crate) fn commit(&mut self, alloc: Global, draft: &Draft) -> Result<Committed, DecideError>
+    /// Decides a change where a kind may have so many rows, and adds the command that makes it. Without one
+    /// nothing changes.
+    #[tactic(auto, using(crate::proofs::KeptLemmas::consistent_of_allowed))]
+    pub fn commit(
+        &mut self,
+        alloc: Global,
+        draft: &Draft,
+        limit: u32,
+    ) -> Result<Committed, DecideError>
         requires { IsProper draft.now }
-        ensures ok { IfOk result (IsAdded self.old self.new draft.now) }
-        ensures refused { IfErr result (λ e. Refuses e (decision_at self.old.commands draft.now self.old.limit)) }
+        ensures ok { IfOk result (IsAdded self.old self.new limit draft.now) }
+        ensures refused { IfErr result (λ e. Refuses e (decision_at self.old draft.now limit)) }
         ensures err { OnErr result (self.new ≡ self.old) }
     {
-        match self.decided(alloc, draft) {
+        match self.decided(alloc, draft, limit) {
             Ok(command) => match self.put(alloc, command) {
                 Ok(done) => Ok(done),
                 Err(NoMemory) => Err(DecideError::NoMemory),
@@ -167,15 +180,14 @@ impl History {
     }
 
     // The command that makes a change, which may then be added, or why there is none.
-    fn decided(&self, alloc: Global, draft: &Draft) -> Result<Command, DecideError>
+    fn decided(&self, alloc: Global, draft: &Draft, limit: u32) -> Result<Command, DecideError>
         requires { IsProper draft.now }
-        ensures decided { Decides result (decision_at self.now.commands draft.now self.now.limit) }
-        ensures allowed { IfOk result (λ command. IsTrue (is_allowed (rows_after self.now.commands) command self.now.limit)) }
+        ensures decided { Decides result (decision_at self.now draft.now limit) }
+        ensures allowed { IfOk result (λ command. IsTrue (is_allowed (rows_after self.now) command limit)) }
         ensures valid { IfOk result IsValidCommand }
-        ensures room { OnOk result (length self.now.commands < most_commits) }
+        ensures room { OnOk result (length self.now < most_commits) }
     {
-        allowed_commands_make_valid_rows(); // a law, called for the proof
-        match decide(alloc, &self.rows, draft, self.limit) {
+        match decide(alloc, &self.rows, draft, limit) {
             Ok(command) => {
                 if self.len() < MOST_COMMITS {
                     return Ok(command);
@@ -190,10 +202,10 @@ impl History {
     // Adds a command, and copies the row that it puts.
     fn put(&mut self, alloc: Global, command: Command) -> Result<Committed, NoMemory>
         requires valid { IsValidCommand command }
-        requires allowed { IsTrue (is_allowed (rows_after self.old.commands) command self.old.limit) }
-        requires room { length self.old.commands < most_commits }
-        ensures ok { OnOk result (self.new ≡ record self.old { commands = self.old.commands ++ command ∷ [] }) }
-        ensures answer { IfOk result (λ done. done ≡ record { at = length self.old.commands + 1; row = row_put command }) }
+        requires consistent { IsTrue (is_consistent (rows_after self.old) command) }
+        requires room { length self.old < most_commits }
+        ensures ok { OnOk result (self.new ≡ self.old ++ command ∷ []) }
+        ensures answer { IfOk result (λ done. done ≡ record { at = length self.old + 1; row = row_put command }) }
         ensures err { OnErr result (self.new ≡ self.old) }
     {
         match row_put(alloc, &command) {
@@ -215,11 +227,11 @@ impl History {
     }
 
     /// Adds a command at the end. Without memory nothing changes.
-    pub(crate) fn append(&mut self, alloc: Global, command: Command) -> Result<(), NoMemory>
+    pub fn append(&mut self, alloc: Global, command: Command) -> Result<(), NoMemory>
         requires valid { IsValidCommand command }
-        requires allowed { IsTrue (is_allowed (rows_after self.old.commands) command self.old.limit) }
-        requires room { length self.old.commands < most_commits }
-        ensures ok { OnOk result (self.new ≡ record self.old { commands = self.old.commands ++ command ∷ [] }) }
+        requires consistent { IsTrue (is_consistent (rows_after self.old) command) }
+        requires room { length self.old < most_commits }
+        ensures ok { OnOk result (self.new ≡ self.old ++ command ∷ []) }
         ensures err { OnErr result (self.new ≡ self.old) }
     {
         // the memory first: the command is kept once the rows have changed

@@ -16,5 +16,7 @@ mod plan;
 pub use crate::answer::{
     CommitError, Committed, Events, GenRows, KeepError, Loaded, LoadedRows, PageAsk, PageGot, Seen,
 };
+pub use crate::history::History;
 pub use crate::keeper::Keeper;
 pub use crate::own_store::OwnStore;
+pub use crate::plan::Plan;

@@ -26,6 +26,7 @@ use std::marker::Model;
 pub struct OwnStore {
     history: History,
     plan: Plan,
+    limit: u32,
     feed: u32,
 }
 
@@ -35,8 +36,8 @@ impl Model for OwnStore {
     ghost Value = { Store };
 
     ghost view = { λ store. record {
-      commands = store.history.commands;
-      limit = store.history.limit;
+      commands = store.history;
+      limit = store.limit;
       feed = store.feed;
       plan = store.plan;
     } };
@@ -50,14 +51,16 @@ impl OwnStore {
         ensures { IfOk result (λ store. store ≡ record { commands = []; limit = rows; feed = feed; plan = record { calls = 0; faults = 0; announced = 0; listed = coming 0 fails } }) }
     {
         Ok(OwnStore {
-            history: History::new(alloc, rows),
+            history: History::new(alloc),
             plan: Plan::new(fails),
+            limit: rows,
             feed,
         })
     }
 
     /// Commits a command as it stands, and answers the number of commits. It is none of the calls that may
     /// fail. Without memory nothing changes.
+    #[tactic(auto, using(crate::proofs::KeptLemmas::consistent_of_allowed))]
     pub fn admit(&mut self, alloc: Global, command: &Command) -> Result<u64, NoMemory>
         requires valid { IsValidCommand command.now }
         requires allowed { IsTrue (is_allowed (rows_after self.old.commands) command.now self.old.limit) }
@@ -131,7 +134,7 @@ impl Keeper for OwnStore {
         if self.begin() {
             return Err(CommitError::Fault);
         }
-        match self.history.commit(alloc, draft) {
+        match self.history.commit(alloc, draft, self.limit) {
             Ok(done) => Ok(done),
             Err(DecideError::Refused(why)) => Err(CommitError::Refused {
                 why,

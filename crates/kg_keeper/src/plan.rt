@@ -7,9 +7,9 @@ ghost use Rattle.kg_outside.specs.Memory.{IsNextListed};
 use kg_text::List;
 use std::marker::Model;
 
-/// How many calls there were, how many of them failed, and which of the coming ones will.
+/// How many calls there were since the plan was made, how many failed, and which of the coming ones will.
 #[derive(Drop)]
-pub(crate) struct Plan {
+pub struct Plan {
     made: u64,
     faults: u64,
     announced: u32,
@@ -31,7 +31,7 @@ impl Model for Plan {
 
 impl Plan {
     /// No call yet. Those whose numbers from 1 are listed will fail.
-    pub(crate) fn new(fails: List<u64>) -> Plan
+    pub fn new(fails: List<u64>) -> Plan
         ensures { result ≡ record { calls = 0; faults = 0; announced = 0; listed = coming 0 fails } }
     {
         Plan {
@@ -42,15 +42,24 @@ impl Plan {
         }
     }
 
+    /// Those of the coming calls whose numbers from 1 are listed will fail, and no others.
+    pub fn plan_anew(&mut self, fails: List<u64>)
+        ensures { self.new ≡ record { calls = 0; faults = self.old.faults; announced = 0; listed = coming 0 fails } }
+    {
+        self.made = 0;
+        self.announced = 0;
+        self.fails = fails;
+    }
+
     /// At least so many of the next calls will fail.
-    pub(crate) fn announce(&mut self, calls: u32)
+    pub fn announce(&mut self, calls: u32)
         ensures { self.new ≡ record self.old { announced = max self.old.announced calls } }
     {
         self.announced = self.announced.max(calls);
     }
 
     /// Counts a call, and tells whether it fails.
-    pub(crate) fn next(&mut self) -> bool
+    pub fn next(&mut self) -> bool
         ensures moved { self.new ≡ moved_on result self.old }
         ensures planned { IsTrue result ↔ Contains (failing self.old) 1 }
         ensures later { self.old.faults ≤ self.new.faults }

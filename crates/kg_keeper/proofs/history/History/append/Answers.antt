@@ -8,5 +8,5 @@ invariant_of-self-in-Ok c =
     let command = c.args.command in
     let kept = rw (← c.self.view_is) at c.requires in
     rw (c.put_last.ensures, c.reserve.ensures.commands, c.in-Ok.ensures.ok, c.push.ensures, c.reserve.ensures.feed)
-    (kept_more inside.limit inside.commands.items inside.rows inside.feed.touched.items command c.in-Ok.touched
-    c.self.invariant kept.valid kept.allowed kept.room c.in-Ok.ensures.touched)
+    (kept_more inside.commands.items inside.rows inside.feed.touched.items command c.in-Ok.touched
+    c.self.invariant kept.valid kept.consistent kept.room c.in-Ok.ensures.touched)

@@ -6,5 +6,5 @@ use Rattle.kg_keeper.proofs.own_store.OwnStore.begin.Goals as goal
 pub returns-clause-call : goal.returns-clause-call
 returns-clause-call c =
     let inside = c.self.inside in
-    let store : Store = record { commands = inside.history.commands; limit = inside.history.limit; feed = inside.feed; plan = inside.plan } in
+    let store : Store = record { commands = inside.history; limit = inside.limit; feed = inside.feed; plan = inside.plan } in
     rw (c.next.ensures.moved, ← c.self.view_is) (call_counted store c.next.result)
