@@ -1,8 +1,8 @@
 -- The ids that the index of places has, in order, are those of the rows.
 use Rattle.std.proofs.Common.{◌≡◌, ℕ, zero, suc, ◌+◌, ◌-◌, ◌<◌, ◌++◌, length, arith, Bool, true, false, cond, ◌||◌, ◌&&◌, nat_cmp, nat_eq, nat_lt, List, [], ◌∷◌, Option, Some, None, is_some, map, filter, take, refl, sym, ap, ◌∙◌, Less, Equal, Greater}
-use Rattle.std.specs.BTreeMap.{BTreeMap, IsOrdered, get}
 use Rattle.std.specs.BTreeMap.Range.{entries_between, range_contains}
 use Rattle.std.specs.List.{list_any}
+use Rattle.std.specs.List.Sorted.{IsStrictlySortedBy}
 use Rattle.std.specs.Map.{keys_of, lookup, values_of}
 use Rattle.std.specs.Ordering.{eq_by_cmp, is_lt}
 use Rattle.std.specs.declared.ops.Bound.TheVariants.{Unbounded}
@@ -16,7 +16,7 @@ use Rattle.kg_tables.proofs.SetLemmas.{has_order, same_sorted, sorted_order}
 use Rattle.kg_tables.proofs.TableLemmas.{flipped}
 use Rattle.kg_tables.specs.IdOrder.{ids_above, is_above}
 use Rattle.kg_tables.specs.InOrder.{in_order}
-use Rattle.kg_tables.specs.PlaceIndexes.{place_of, start_of}
+use Rattle.kg_tables.specs.PlaceIndexes.{place_at, place_of, start_of}
 
 -- one of the numbers
 abbrev among : ℕ → List ℕ → Bool
@@ -84,22 +84,22 @@ module _ {T : Type 0} (number : T → ℕ) where
       ap (λ b. b || list_any (λ r. nat_eq (number r) t) rows) (flipped (number row) t ∙ sym (as_numbers t (number row)))
       ∙ ap (λ rest. eq_by_cmp nat_cmp t (number row) || rest) (among_ids t rows)
 
-  pub ids_are : (offset : Option ℕ) (most : ℕ) (es : List (ℕ × T)) (places : BTreeMap ℕ ℕ) → IsOrdered nat_cmp places → ((id : ℕ) → get nat_cmp places id ≡ place_of number es id)
-      → keys_of (take most (entries_between nat_cmp (start_of offset) Unbounded places.entries)) ≡ take most (ids_above offset (map number (values_of es)))
+  pub ids_are : (offset : Option ℕ) (most : ℕ) (es : List (ℕ × T)) (places : List (ℕ × ℕ)) → IsStrictlySortedBy nat_cmp (keys_of places) → ((id : ℕ) → place_at places id ≡ place_of number es id)
+      → keys_of (take most (entries_between nat_cmp (start_of offset) Unbounded places)) ≡ take most (ids_above offset (map number (values_of es)))
   ids_are offset most es places sorted found =
-      keys_taken most (entries_between nat_cmp (start_of offset) Unbounded places.entries)
-      ∙ ap (take most) (keys_between (range_contains nat_cmp (start_of offset) Unbounded) places.entries
+      keys_taken most (entries_between nat_cmp (start_of offset) Unbounded places)
+      ∙ ap (take most) (keys_between (range_contains nat_cmp (start_of offset) Unbounded) places
       ∙ (λ i. filter (λ id. same_start offset id i) keys)
       ∙ same_sorted nat_cmp_total exact_unsigned (filter (is_above offset) keys) (in_order nat_cmp (filter (is_above offset) ids))
       (IsStrictlySortedBy-filter nat_cmp (is_above offset) keys sorted)
       (sorted_order nat_cmp_total exact_unsigned (filter (is_above offset) ids))
       (λ t. among_passing (is_above offset) t keys
-      ∙ ap (λ b. is_above offset t && b) (sym (among_keys t places.entries) ∙ ap is_some (found t) ∙ is_some_place number t es ∙ among_ids t (values_of es))
+      ∙ ap (λ b. is_above offset t && b) (sym (among_keys t places) ∙ ap is_some (found t) ∙ is_some_place number t es ∙ among_ids t (values_of es))
       ∙ sym (among_passing (is_above offset) t ids)
       ∙ sym (has_order nat_cmp_total exact_unsigned t (filter (is_above offset) ids))))
     where
       keys : List ℕ
-      keys = keys_of places.entries
+      keys = keys_of places
 
       ids : List ℕ
       ids = map number (values_of es)

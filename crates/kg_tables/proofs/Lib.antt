@@ -1,4 +1,5 @@
 mod FirstLemmas
+mod IdIndexLemmas
 mod IdLemmas
 mod KeyIndexLemmas
 mod ListedLemmas

@@ -38,6 +38,10 @@ listed_in listing _ id place = false
 abbrev pub row_at : {T : Type 0} → List (ℕ × T) → ℕ → Option T
 row_at entries place = lookup (is_at (nat_cmp place)) entries
 
+-- the place that an id has among these
+abbrev pub place_at : List (ℕ × ℕ) → ℕ → Option ℕ
+place_at places id = lookup (is_at (nat_cmp id)) places
+
 -- the place of the row with an id
 abbrev pub place_of : {T : Type 0} → (T → ℕ) → List (ℕ × T) → ℕ → Option ℕ
 place_of number entries id = option_map (λ entry. entry.0) (find (λ entry. nat_eq (number entry.1) id) entries)

@@ -3,6 +3,7 @@
 //! What a row of each kind is stands in `kg_row_types`; all tables together are `kg_entities`.
 #![tactic(auto)]
 
+mod id_index;
 mod key_index;
 mod listing;
 mod named_table;

@@ -14,6 +14,7 @@ ghost use Rattle.std.specs.Map.{keys_of};
 ghost use Rattle.std.specs.Ordering.{nat_cmp};
 ghost use Rattle.std.specs.declared.ops.Bound.TheVariants.{Unbounded};
 
+use crate::id_index::IdIndex;
 use crate::listing::Listing;
 use crate::row::{Row, is_other, no_references};
 use crate::walk::{ListedRows, Steps, Walk};
@@ -26,24 +27,22 @@ use std::marker::Model;
 use std::ops::Bound;
 
 /// The rows of one kind. Contracts see them as a list in the order of insertion. A row is found by its
-/// id, and rows by a service, route or consumer that they name, in the logarithm of their number.
+/// id, and rows by a service, route or consumer that they name, in the logarithm of their number. Whether
+/// an id is there costs the same however many rows there are.
 #[derive(Drop)]
 pub struct RowTable<T: Row> {
     /// By place: a row keeps its place, and a new one gets the next.
     rows: BTreeMap<u64, T>,
-    places: BTreeMap<Id, u64>,
+    places: IdIndex,
     listing: Listing,
     next: u64,
 }
 
 impl<T: Row> Model for RowTable<T> {
     ghost use Rattle.std.specs.Prelude.{List};
-    ghost use Rattle.std.specs.BTreeMap.{get};
     ghost use Rattle.std.specs.Coded.{coded_list};
     ghost use Rattle.std.specs.Map.{values_of};
-    ghost use Rattle.std.specs.Ordering.{nat_cmp};
-    ghost use Rattle.std.specs.declared.ops.Bound.TheVariants.{Unbounded};
-    ghost use Rattle.kg_tables.specs.PlaceIndexes.{IsTable, listed_in};
+    ghost use Rattle.kg_tables.specs.PlaceIndexes.{IsTable, listed_in, place_at};
     ghost use Rattle.kg_tables.specs.References.{refers};
 
     ghost Value = { List T };
@@ -52,7 +51,7 @@ impl<T: Row> Model for RowTable<T> {
 
     ghost view = { λ table. values_of table.rows.entries };
 
-    ghost invariant = { λ table. IsTable T.number (λ kind id row. refers kind id (T.references row)) table.rows.entries (get nat_cmp table.places) (listed_in table.listing) table.next };
+    ghost invariant = { λ table. IsTable T.number (λ kind id row. refers kind id (T.references row)) table.rows.entries (place_at table.places) (listed_in table.listing) table.next };
 }
 
 impl<T: Row> RowTable<T> {
@@ -62,7 +61,7 @@ impl<T: Row> RowTable<T> {
     {
         RowTable {
             rows: BTreeMap::new(alloc),
-            places: BTreeMap::new(alloc),
+            places: IdIndex::new(alloc),
             listing: Listing::new(alloc),
             next: 0,
         }
@@ -151,7 +150,7 @@ impl<T: Row> RowTable<T> {
     ) -> Result<List<Id>, NoMemory>
         ensures { IfOk result (λ ids. ids ≡ take most (ids_above offset (map T.number self.now))) }
     {
-        first_ids(alloc, &self.places, start_of(offset), most)
+        first_ids(alloc, self.places.in_order(), start_of(offset), most)
     }
 
     /// Adds a row at the end.

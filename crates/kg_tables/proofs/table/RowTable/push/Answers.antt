@@ -1,5 +1,4 @@
 use Rattle.std.proofs.Common.{Bool, ◌≡◌, ◌<◌, [], ◌∷◌, ◌++◌, ℕ, Option, Some, None, cond, nat_cmp, nat_eq, sym, ap, subst, ◌∙◌, rules}
-use Rattle.std.specs.BTreeMap.{get}
 use Rattle.std.specs.List.{list_any}
 use Rattle.std.specs.List.Sorted.{IsStrictlySortedBy}
 use Rattle.std.specs.Map.{keys_of, values_of}
@@ -7,7 +6,7 @@ use Rattle.std.specs.Ordering.{eq_by_cmp}
 use Rattle.kg_tables.proofs.PlaceLemmas.{put_last, table_kept, table_push, undone}
 use Rattle.kg_tables.proofs.TableLemmas.{values-push}
 use Rattle.kg_row_types.specs.declared.entity.Kind.{Kind}
-use Rattle.kg_tables.specs.PlaceIndexes.{IsTable, listed_in}
+use Rattle.kg_tables.specs.PlaceIndexes.{IsTable, listed_in, place_at}
 use Rattle.kg_tables.specs.References.{refers}
 use Rattle.kg_tables.proofs.table.RowTable.push.Goals as goal
 
@@ -19,13 +18,13 @@ invariant_of-self-in-Ok g c =
     let es = c.self.inside.rows.entries in
     let n = c.self.inside.next in
     let row = c.args.row in
-    let place = get nat_cmp c.self.inside.places in
+    let place = place_at c.self.inside.places in
     let last : c.insert-2.new.self.entries ≡ es ++ (n, row) ∷ [] = c.in-Ok.ensures.entries ∙ put_last number n row es c.self.invariant.before in
     let more : n < c.in-Some.next = search rules in
-    subst (λ entries. IsTable number names entries (get nat_cmp c.insert.new.self) (listed_in c.note.new.self) c.in-Some.next) (sym last)
-    (table_push number names es place (get nat_cmp c.insert.new.self) (listed_in c.self.inside.listing) (listed_in c.note.new.self) n c.in-Some.next row c.self.invariant more
+    subst (λ entries. IsTable number names entries (place_at c.insert.new.self) (listed_in c.note.new.self) c.in-Some.next) (sym last)
+    (table_push number names es place (place_at c.insert.new.self) (listed_in c.self.inside.listing) (listed_in c.note.new.self) n c.in-Some.next row c.self.invariant more
     (ap (list_any (λ other. nat_eq (number other) (number row))) c.self.view_is ∙ c.requires.new)
-    (λ id. c.in_ok-insert.ensures.updates.0 id ∙ ap (λ own. cond {A = Option ℕ} (eq_by_cmp nat_cmp own id) (Some n) (place id)) c.id-id.ensures)
+    (λ id. c.in_ok-insert.ensures.updates id ∙ ap (λ own. cond {A = Option ℕ} (eq_by_cmp nat_cmp own id) (Some n) (place id)) c.id-id.ensures)
     c.note.ensures.kept
     (λ kind id named. c.in_ok-note.ensures.listed kind id (ap (refers kind id) c.references.ensures ∙ named))
     (subst (λ entries. IsStrictlySortedBy nat_cmp (keys_of entries)) last c.in-Ok.ensures.ordered))
@@ -45,11 +44,11 @@ invariant_of-self-in-Err g c =
     let es = c.self.inside.rows.entries in
     let n = c.self.inside.next in
     let row = c.args.row in
-    let place = get nat_cmp c.self.inside.places in
-    table_kept number names es c.insert-2.new.self.entries place (get nat_cmp c.remove.new.self) (listed_in c.self.inside.listing) (listed_in c.note.new.self) n c.self.invariant
+    let place = place_at c.self.inside.places in
+    table_kept number names es c.insert-2.new.self.entries place (place_at c.remove.new.self) (listed_in c.self.inside.listing) (listed_in c.note.new.self) n c.self.invariant
     c.in-Err.ensures.err
-    (λ id. c.remove.ensures.updates.0 id
-    ∙ ap (cond {A = Option ℕ} (eq_by_cmp nat_cmp c.id-id.result id) None) (c.in_ok-insert.ensures.updates.0 id)
+    (λ id. c.remove.ensures.updates id
+    ∙ ap (cond {A = Option ℕ} (eq_by_cmp nat_cmp c.id-id.result id) None) (c.in_ok-insert.ensures.updates id)
     ∙ ap (λ own. cond {A = Option ℕ} (eq_by_cmp nat_cmp own id) None (cond {A = Option ℕ} (eq_by_cmp nat_cmp own id) (Some n) (place id))) c.id-id.ensures
     ∙ undone number names es place (listed_in c.self.inside.listing) n c.self.invariant (number row) n (ap (list_any (λ other. nat_eq (number other) (number row))) c.self.view_is ∙ c.requires.new) id)
     c.note.ensures.kept

@@ -1,12 +1,11 @@
 use Rattle.std.proofs.Common.{◌≡◌, ℕ, Bool, Some, not, nat_cmp, nat_eq, find, filter, is_some, sym, ap, subst, ◌∙◌, true≢false}
-use Rattle.std.specs.BTreeMap.{get}
 use Rattle.std.specs.List.Sorted.{IsStrictlySortedBy}
 use Rattle.std.specs.Map.{keys_of, values_of}
 use Rattle.kg_row_types.specs.declared.entity.Kind.{Kind}
 use Rattle.kg_tables.proofs.PlaceLemmas.{at_place, elsewhere, is_there, no_place, row_there, table_left, taken}
 use Rattle.kg_tables.proofs.TableLemmas.{values-filter}
 use Rattle.kg_tables.proofs.KeyIndexLemmas.{all_left}
-use Rattle.kg_tables.specs.PlaceIndexes.{IsTable, listed_in}
+use Rattle.kg_tables.specs.PlaceIndexes.{IsTable, listed_in, place_at}
 use Rattle.kg_tables.specs.References.{refers}
 use Rattle.kg_tables.proofs.table.RowTable.remove.Goals as goal
 
@@ -35,11 +34,11 @@ invariant_of-self-2 g c =
     let names : Kind → ℕ → g.row.T.Denot → Bool = λ kind id row. refers kind id (g.T.Row.references row) in
     let es = c.self.inside.rows.entries in
     let p = c.in_ok-place.place in
-    let there : get nat_cmp c.self.inside.places c.args.id ≡ Some p = sym c.remove.ensures.value ∙ c.in_ok-place.was in
+    let there : place_at c.self.inside.places c.args.id ≡ Some p = sym c.remove.ensures.value ∙ c.in_ok-place.was in
     let left : c.remove-2.new.self.entries ≡ filter (λ e. not (nat_eq (number e.1) c.args.id)) es = c.remove-2.ensures.entries ∙ taken number names es _ _ _ c.self.invariant c.args.id p there in
-    subst (λ entries. IsTable number names entries (get nat_cmp c.remove.new.self) (listed_in c.forget.new.self) c.self.inside.next) (sym left)
-    (table_left number names es (get nat_cmp c.self.inside.places) (get nat_cmp c.remove.new.self) (listed_in c.self.inside.listing) (listed_in c.forget.new.self) c.args.id p c.self.inside.next c.self.invariant there
-    c.remove.ensures.updates.0
+    subst (λ entries. IsTable number names entries (place_at c.remove.new.self) (listed_in c.forget.new.self) c.self.inside.next) (sym left)
+    (table_left number names es (place_at c.self.inside.places) (place_at c.remove.new.self) (listed_in c.self.inside.listing) (listed_in c.forget.new.self) c.args.id p c.self.inside.next c.self.invariant there
+    c.remove.ensures.updates
     (λ kind id at apart was. c.forget.ensures kind id at (elsewhere p at (not (refers kind id c.no_references.result)) apart) was)
     (subst (λ entries. IsStrictlySortedBy nat_cmp (keys_of entries)) left c.remove-2.ensures.ordered))
 
