@@ -16,14 +16,16 @@ use Rattle.kg_outside.specs.Moves.{with_front}
 use Rattle.kg_outside.proofs.Observed.{with_front-append}
 use Rattle.kg_wire.specs.declared.head.Head.{Head}
 use Rattle.kg_message.specs.declared.request.Request.{Request}
+use Rattle.kg_wire.specs.declared.held.FillError.{FillError}
+use Rattle.kg_wire.specs.declared.held.FillError.TheVariants.{Fault, NoMemory as OutOfMemory}
 use Rattle.kg_wire.specs.declared.reader.ReadError.{ReadError}
 use Rattle.kg_wire.specs.declared.reader.ReadError.TheVariants.{Bad, HeadTooLarge, BodyTooLarge, Cut, ReadFault, NoMemory}
 use Rattle.kg_wire.specs.declared.reader.Start.{Start}
 use Rattle.kg_wire.specs.Checks.{body_len}
-use Rattle.kg_wire.specs.Messages.{most_head, most_body, Message, print_message, head_of, request_with, request_of, IsRequest}
+use Rattle.kg_wire.specs.Messages.{most_head, most_body, Message, print_message, head_of, request_with, request_of, BeginsNoRequest, IsRequest}
 use Rattle.kg_wire.specs.Targets.{is_target}
 use Rattle.kg_wire.specs.Reading.{ReaderState, Grows, Takes, Ends, Counts}
-use Rattle.kg_wire.specs.ReadingSteps.{IsStart, HaveTokens, head_at}
+use Rattle.kg_wire.specs.ReadingSteps.{IsStart, HaveTokens, head_at, error_of}
 use Rattle.kg_wire.specs.Refusals.{IsBad, IsCut}
 
 -- httparse's tokens are ours
@@ -171,6 +173,16 @@ ends_later at first second third left_first left_second left_third (Cut have) gr
 ends_later at first second third left_first left_second left_third ReadFault grows ends =
     (grows_on first second third left_first left_second left_third grows ends.0, ends.1)
 ends_later at first second third left_first left_second left_third NoMemory grows ends = ends
+
+-- how a reading ends where a read failed, before which no whole request was held
+pub ends_failed : (at : ℕ) (first second third : List ℕ) (left_first left_second left_third : Option (List ℕ)) (f : FillError)
+    → Grows first second left_first left_second → BeginsNoRequest second → third ≡ second → left_third ≡ left_second
+    → Ends at first third left_first left_third (error_of f)
+ends_failed at first second third left_first left_second left_third Fault grows none held left = (
+  record { piece = grows.piece; grown = held ∙ grows.grown; moved = grows.moved ∙ ap (with_front grows.piece) (sym left) },
+  subst BeginsNoRequest (sym held) none,
+)
+ends_failed at first second third left_first left_second left_third OutOfMemory grows none held left = tt
 
 -- a request that was taken after a piece was read
 pub takes_later : (first second third : ReaderState) (left_first left_second left_third : Option (List ℕ)) (request : Request)

@@ -5,7 +5,7 @@ use Rattle.kg_outside.specs.Moves.{with_front}
 use Rattle.kg_message.specs.declared.request.Request.{Request}
 use Rattle.kg_wire.specs.declared.reader.ReadError.{ReadError}
 use Rattle.kg_wire.specs.declared.reader.ReadError.TheVariants.{Bad, HeadTooLarge, BodyTooLarge, Cut, ReadFault, NoMemory}
-use Rattle.kg_wire.specs.Messages.{Message, print_message, request_of, IsRequest}
+use Rattle.kg_wire.specs.Messages.{Message, print_message, request_of, BeginsNoRequest, IsRequest}
 use Rattle.kg_wire.specs.Refusals.{IsBad, IsCut}
 
 -- what is known of a reader
@@ -49,13 +49,14 @@ abbrev pub Gives : ReaderState → ReaderState → Option (List ℕ) → Option 
 Gives before now left_before left_now (Some request) = Takes before now left_before left_now request
 Gives before now left_before left_now None = IsNothing before now left_before left_now
 
--- why the bytes held, the first of which stands at this place, were refused
+-- why the bytes held, the first of which stands at this place, were refused; a read failed only where they begin no
+-- whole request
 abbrev pub Refuses : ℕ → List ℕ → Option (List ℕ) → ReadError → Type 0
 Refuses at held left (Bad place) = (place ≡ at) × IsBad held
 Refuses at held left HeadTooLarge = ⊥
 Refuses at held left BodyTooLarge = ⊥
 Refuses at held left (Cut have) = (have ≡ length held) × IsCut held × IsEnded left
-Refuses at held left ReadFault = ⊤
+Refuses at held left ReadFault = BeginsNoRequest held
 Refuses at held left NoMemory = ⊤
 
 -- how a reading ends in an error; want of memory may have lost bytes

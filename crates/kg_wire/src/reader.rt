@@ -38,7 +38,7 @@ pub enum ReadError {
     BodyTooLarge,
     /// The source ended inside a request, of which there are `have` bytes.
     Cut { have: u64 },
-    /// The source failed.
+    /// The source failed, where no whole request was held.
     ReadFault,
     /// There was no memory. Bytes may be lost.
     NoMemory,
@@ -256,6 +256,7 @@ fn fill_head<S: Source>(source: &mut S, held: &mut Held) -> Result<bool, FillErr
     requires none { HasNoRequest held.old }
     ensures ok { IfOk result (FillsHead held.old held.new (S.left source.old) (S.left source.new)) }
     ensures err { OnErr result (Grows held.old held.new (S.left source.old) (S.left source.new)) }
+    ensures none { OnErr result (BeginsNoRequest held.new) }
     ensures kept { OnOk result (S.faults source.new ≡ S.faults source.old) }
     ensures beside { S.beside source.new ≡ S.beside source.old }
     ensures counts { IfErr result (λ f. Counts (S.faults source.old) (S.faults source.new) (error_of f)) }
