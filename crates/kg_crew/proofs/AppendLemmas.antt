@@ -83,15 +83,15 @@ fails_append left xs ys text a b = record {
 }
 
 -- the connection ends behind both as it ends behind the later ones
-pub ends_append : (end : End) (start middle : ℕ) (left : Allowance) (xs ys : List Call) (ahead : Option (List ℕ)) (text : List ℕ)
-    → Allows left xs → middle ≡ start + length (bytes_of xs) → EndsSo middle (left_behind left xs) ys ahead text end
-    → EndsSo start left (xs ++ ys) ahead (replies left xs ++ text) end
-ends_append Closed start middle left xs ys ahead text a place (on, none, same) =
+pub ends_append : (end : End) (start middle : ℕ) (left : Allowance) (xs ys : List Call) (ahead ahead_now : Option (List ℕ)) (text : List ℕ)
+    → Allows left xs → middle ≡ start + length (bytes_of xs) → EndsSo middle (left_behind left xs) ys ahead ahead_now text end
+    → EndsSo start left (xs ++ ys) ahead ahead_now (replies left xs ++ text) end
+ends_append Closed start middle left xs ys ahead ahead_now text a place (on, none, same) =
     (on_append left xs ys a on, none, whole_append left xs ys text same)
-ends_append Asked start middle left xs ys ahead text a place (last, same) = (asks_append left xs ys a last, whole_append left xs ys text same)
-ends_append Spent start middle left xs ys ahead text a place (more, spent, same) =
+ends_append Asked start middle left xs ys ahead ahead_now text a place (last, same) = (asks_append left xs ys a last, whole_append left xs ys text same)
+ends_append Spent start middle left xs ys ahead ahead_now text a place (more, spent, same) =
     (allows_append left xs ys a more, ap is_spent (left_append left xs ys) ∙ spent, whole_append left xs ys text same)
-ends_append (BadMessage at) start middle left xs ys ahead text a place (on, bad, here, same) = (
+ends_append (BadMessage at) start middle left xs ys ahead ahead_now text a place (on, bad, here, same) = (
   on_append left xs ys a on,
   bad,
   here ∙ place_append start middle xs ys place,
@@ -99,13 +99,14 @@ ends_append (BadMessage at) start middle left xs ys ahead text a place (on, bad,
       ∙ sym (append_assoc (replies left xs) (replies (left_behind left xs) ys) refusal_text)
       ∙ ap (λ t. t ++ refusal_text) (sym (replies_append left xs ys)),
 )
-ends_append HeadTooLarge start middle left xs ys ahead text a place none = absurd none
-ends_append BodyTooLarge start middle left xs ys ahead text a place none = absurd none
-ends_append (Cut have) start middle left xs ys ahead text a place (on, cut, same) =
+ends_append HeadTooLarge start middle left xs ys ahead ahead_now text a place none = absurd none
+ends_append BodyTooLarge start middle left xs ys ahead ahead_now text a place none = absurd none
+ends_append (Cut have) start middle left xs ys ahead ahead_now text a place (on, cut, same) =
     (on_append left xs ys a on, cut, whole_append left xs ys text same)
-ends_append ReadFault start middle left xs ys ahead text a place (on, same) = (on_append left xs ys a on, whole_append left xs ys text same)
-ends_append WriteFault start middle left xs ys ahead text a place (inl last) = inl (fails_append left xs ys text a last)
-ends_append WriteFault start middle left xs ys ahead text a place (inr (on, bad, part)) =
+ends_append ReadFault start middle left xs ys ahead ahead_now text a place (on, none, same) =
+    (on_append left xs ys a on, none, whole_append left xs ys text same)
+ends_append WriteFault start middle left xs ys ahead ahead_now text a place (inl last) = inl (fails_append left xs ys text a last)
+ends_append WriteFault start middle left xs ys ahead ahead_now text a place (inr (on, bad, part)) =
     inr (on_append left xs ys a on, bad, stops_append left xs ys refusal_text text part)
-ends_append NoMemory start middle left xs ys ahead text a place (more, same) =
+ends_append NoMemory start middle left xs ys ahead ahead_now text a place (more, same) =
     (allows_append left xs ys a more, whole_append left xs ys text same)

@@ -16,7 +16,7 @@ use Rattle.kg_outside.specs.Moves.{with_end, with_front}
 use Rattle.kg_outside.proofs.Observed.{with_end-nil, with_front-append, with_front-nil}
 use Rattle.kg_print.specs.Connection.{asks_for_end}
 use Rattle.kg_text.specs.declared.error.NoMemory.{NoMemory as OutOfMemory}
-use Rattle.kg_wire.specs.Messages.{Message, IsRequest, print_message, request_of}
+use Rattle.kg_wire.specs.Messages.{Message, BeginsNoRequest, IsRequest, print_message, request_of}
 use Rattle.kg_wire.specs.Reading.{Grows, IsEnded, IsNothing, ReaderState, Refuses as RefusesBytes, Takes}
 use Rattle.kg_wire.specs.Refusals.{IsBad, IsCut}
 use Rattle.kg_wire.specs.declared.reader.ReadError.TheVariants.{Bad, Cut as CutMessage}
@@ -62,13 +62,13 @@ one_written message time bytes done after left w0 w1 same =
     same ∙ ap (with_end w0) (sym (append-nil (text_of (less left done.response) (request_in message) done.response)))
 
 -- the next request was answered: it goes on
-went_on : (Drew : List (List ℕ) → Type 0) (Read : List ℕ → Type 0) (start at : ℕ) (left last : Allowance) (ahead rest w0 w1 : Option (List ℕ)) (s0 s1 : Observed)
+went_on : (Drew : List (List ℕ) → Type 0) (Read : List ℕ → Type 0) (start at : ℕ) (left last : Allowance) (ahead ahead_now rest w0 w1 : Option (List ℕ)) (s0 s1 : Observed)
     (message : Message) (done : AdminDone)
     → IsRequest message → ahead ≡ with_front (print_message message) rest → at ≡ start + length (print_message message) → is_spent left ≡ false
     → IsTried Drew Read s0 s1 (request_in message) (Ok done)
     → asks_for_end (request_in message) ≡ false → last ≡ less left done.response → w1 ≡ with_end w0 (text_of (less left done.response) (request_in message) done.response)
-    → Advances Drew Read start at left last (record { ahead = ahead; written = w0; written_now = w1; store = s0; store_now = s1 }) rest (done ∷ [])
-went_on Drew Read start at left last ahead rest w0 w1 s0 s1 message done is front place more tried asking spared written = record {
+    → Advances Drew Read start at left last (record { ahead = ahead; ahead_now = ahead_now; written = w0; written_now = w1; store = s0; store_now = s1 }) rest (done ∷ [])
+went_on Drew Read start at left last ahead ahead_now rest w0 w1 s0 s1 message done is front place more tried asking spared written = record {
   calls = call_for message tried.time tried.bytes done s1 ∷ [];
   told = refl;
   made = (is, tried.answers, refl);
@@ -82,13 +82,13 @@ went_on Drew Read start at left last ahead rest w0 w1 s0 s1 message done is fron
 }
 
 -- the next request was answered: it ends
-went_last : (Drew : List (List ℕ) → Type 0) (Read : List ℕ → Type 0) (start : ℕ) (left : Allowance) (ahead rest w0 w1 : Option (List ℕ)) (s0 s1 : Observed)
+went_last : (Drew : List (List ℕ) → Type 0) (Read : List ℕ → Type 0) (start : ℕ) (left : Allowance) (ahead ahead_now rest w0 w1 : Option (List ℕ)) (s0 s1 : Observed)
     (message : Message) (done : AdminDone) (text : List ℕ) (end : End)
     → IsRequest message → ahead ≡ with_front (print_message message) rest → (tried : IsTried Drew Read s0 s1 (request_in message) (Ok done))
-    → EndsSo start left (call_for message tried.time tried.bytes done s1 ∷ []) rest text end → w1 ≡ with_end w0 text
+    → EndsSo start left (call_for message tried.time tried.bytes done s1 ∷ []) rest ahead_now text end → w1 ≡ with_end w0 text
     → ComesBehind end (less left done.response) rest s1 s1 [] []
-    → Serves Drew Read start left (record { ahead = ahead; written = w0; written_now = w1; store = s0; store_now = s1 }) (done ∷ []) end
-went_last Drew Read start left ahead rest w0 w1 s0 s1 message done text end is front tried ends written behind = record {
+    → Serves Drew Read start left (record { ahead = ahead; ahead_now = ahead_now; written = w0; written_now = w1; store = s0; store_now = s1 }) (done ∷ []) end
+went_last Drew Read start left ahead ahead_now rest w0 w1 s0 s1 message done text end is front tried ends written behind = record {
   calls = call_for message tried.time tried.bytes done s1 ∷ [];
   told = refl;
   store = s1;
@@ -107,11 +107,11 @@ went_last Drew Read start left ahead rest w0 w1 s0 s1 message done text end is f
 }
 
 -- there was no memory for its reply
-went_without : (Drew : List (List ℕ) → Type 0) (Read : List ℕ → Type 0) (start : ℕ) (left : Allowance) (ahead rest w0 w1 : Option (List ℕ)) (s0 s1 : Observed)
+went_without : (Drew : List (List ℕ) → Type 0) (Read : List ℕ → Type 0) (start : ℕ) (left : Allowance) (ahead ahead_now rest w0 w1 : Option (List ℕ)) (s0 s1 : Observed)
     (message : Message) (result : Result AdminDone OutOfMemory)
     → is_spent left ≡ false → IsRequest message → ahead ≡ with_front (print_message message) rest → IsTried Drew Read s0 s1 (request_in message) result → w1 ≡ w0
-    → Serves Drew Read start left (record { ahead = ahead; written = w0; written_now = w1; store = s0; store_now = s1 }) [] NoMemory
-went_without Drew Read start left ahead rest w0 w1 s0 s1 message result more is front tried same = record {
+    → Serves Drew Read start left (record { ahead = ahead; ahead_now = ahead_now; written = w0; written_now = w1; store = s0; store_now = s1 }) [] NoMemory
+went_without Drew Read start left ahead ahead_now rest w0 w1 s0 s1 message result more is front tried same = record {
   calls = [];
   told = refl;
   store = s0;
@@ -140,26 +140,26 @@ went_without Drew Read start left ahead rest w0 w1 s0 s1 message result more is 
 }
 
 -- it was noted and its reply written, or a front of it
-noted : (result : Result Allowance End) (Drew : List (List ℕ) → Type 0) (Read : List ℕ → Type 0) (start at : ℕ) (left : Allowance) (ahead rest w0 w1 : Option (List ℕ))
+noted : (result : Result Allowance End) (Drew : List (List ℕ) → Type 0) (Read : List ℕ → Type 0) (start at : ℕ) (left : Allowance) (ahead ahead_now rest w0 w1 : Option (List ℕ))
     (s0 s1 : Observed) (message : Message) (done : AdminDone) (dones dones_now : List AdminDone)
     → IsRequest message → ahead ≡ with_front (print_message message) rest → at ≡ start + length (print_message message) → is_spent left ≡ false
     → IsTried Drew Read s0 s1 (request_in message) (Ok done) → Notes (request_in message) done left dones dones_now w0 w1 result
-    → ServesNext Drew Read start at left (record { ahead = ahead; written = w0; written_now = w1; store = s0; store_now = s1 }) rest dones dones_now result
-noted (Ok last) Drew Read start at left ahead rest w0 w1 s0 s1 message done dones dones_now is front place more tried (added, (asking, spared, written)) =
-    (done ∷ [], added, went_on Drew Read start at left last ahead rest w0 w1 s0 s1 message done is front place more tried asking spared written)
-noted (Err Asked) Drew Read start at left ahead rest w0 w1 s0 s1 message done dones dones_now is front place more tried (added, (asking, written)) =
+    → ServesNext Drew Read start at left (record { ahead = ahead; ahead_now = ahead_now; written = w0; written_now = w1; store = s0; store_now = s1 }) rest dones dones_now result
+noted (Ok last) Drew Read start at left ahead ahead_now rest w0 w1 s0 s1 message done dones dones_now is front place more tried (added, (asking, spared, written)) =
+    (done ∷ [], added, went_on Drew Read start at left last ahead ahead_now rest w0 w1 s0 s1 message done is front place more tried asking spared written)
+noted (Err Asked) Drew Read start at left ahead ahead_now rest w0 w1 s0 s1 message done dones dones_now is front place more tried (added, (asking, written)) =
     let call = call_for message tried.time tried.bytes done s1 in (
       done ∷ [],
       added,
-      went_last Drew Read start left ahead rest w0 w1 s0 s1 message done (replies left (call ∷ [])) Asked is front tried
+      went_last Drew Read start left ahead ahead_now rest w0 w1 s0 s1 message done (replies left (call ∷ [])) Asked is front tried
           (record { before = []; last = call; joined = refl; on = (tt, more); asked = asking }, refl)
           (one_written message tried.time tried.bytes done s1 left w0 w1 written) (refl, refl, refl),
     )
-noted (Err WriteFault) Drew Read start at left ahead rest w0 w1 s0 s1 message done dones dones_now is front place more tried (added, (part, begins, written)) =
+noted (Err WriteFault) Drew Read start at left ahead ahead_now rest w0 w1 s0 s1 message done dones dones_now is front place more tried (added, (part, begins, written)) =
     let call = call_for message tried.time tried.bytes done s1 in (
       done ∷ [],
       added,
-      went_last Drew Read start left ahead rest w0 w1 s0 s1 message done part WriteFault is front tried
+      went_last Drew Read start left ahead ahead_now rest w0 w1 s0 s1 message done part WriteFault is front tried
           (inl (record {
             before = [];
             last = call;
@@ -169,21 +169,21 @@ noted (Err WriteFault) Drew Read start at left ahead rest w0 w1 s0 s1 message do
           }))
           written (refl, refl, refl),
     )
-noted (Err Closed) Drew Read start at left ahead rest w0 w1 s0 s1 message done dones dones_now is front place more tried (added, none) = absurd none
-noted (Err Spent) Drew Read start at left ahead rest w0 w1 s0 s1 message done dones dones_now is front place more tried (added, none) = absurd none
-noted (Err (BadMessage here)) Drew Read start at left ahead rest w0 w1 s0 s1 message done dones dones_now is front place more tried (added, none) = absurd none
-noted (Err HeadTooLarge) Drew Read start at left ahead rest w0 w1 s0 s1 message done dones dones_now is front place more tried (added, none) = absurd none
-noted (Err BodyTooLarge) Drew Read start at left ahead rest w0 w1 s0 s1 message done dones dones_now is front place more tried (added, none) = absurd none
-noted (Err (Cut have)) Drew Read start at left ahead rest w0 w1 s0 s1 message done dones dones_now is front place more tried (added, none) = absurd none
-noted (Err ReadFault) Drew Read start at left ahead rest w0 w1 s0 s1 message done dones dones_now is front place more tried (added, none) = absurd none
-noted (Err NoMemory) Drew Read start at left ahead rest w0 w1 s0 s1 message done dones dones_now is front place more tried (added, none) = absurd none
+noted (Err Closed) Drew Read start at left ahead ahead_now rest w0 w1 s0 s1 message done dones dones_now is front place more tried (added, none) = absurd none
+noted (Err Spent) Drew Read start at left ahead ahead_now rest w0 w1 s0 s1 message done dones dones_now is front place more tried (added, none) = absurd none
+noted (Err (BadMessage here)) Drew Read start at left ahead ahead_now rest w0 w1 s0 s1 message done dones dones_now is front place more tried (added, none) = absurd none
+noted (Err HeadTooLarge) Drew Read start at left ahead ahead_now rest w0 w1 s0 s1 message done dones dones_now is front place more tried (added, none) = absurd none
+noted (Err BodyTooLarge) Drew Read start at left ahead ahead_now rest w0 w1 s0 s1 message done dones dones_now is front place more tried (added, none) = absurd none
+noted (Err (Cut have)) Drew Read start at left ahead ahead_now rest w0 w1 s0 s1 message done dones dones_now is front place more tried (added, none) = absurd none
+noted (Err ReadFault) Drew Read start at left ahead ahead_now rest w0 w1 s0 s1 message done dones dones_now is front place more tried (added, none) = absurd none
+noted (Err NoMemory) Drew Read start at left ahead ahead_now rest w0 w1 s0 s1 message done dones dones_now is front place more tried (added, none) = absurd none
 
 -- the request that was read is answered
 pub taken : (Drew : List (List ℕ) → Type 0) (Read : List ℕ → Type 0) (before now : ReaderState) (bytes later later_now w0 w_read w1 : Option (List ℕ)) (s0 s1 : Observed)
     (request : Request) (left : Allowance) (dones dones_now : List AdminDone) (result : Result Allowance End)
     → before.address ≡ local_address → is_spent left ≡ false → Takes before now bytes later request → later_now ≡ later → w_read ≡ w0
     → RepliesTo Drew Read request left s0 s1 dones dones_now w_read w1 result
-    → ServesNext Drew Read before.at now.at left (record { ahead = with_front before.held bytes; written = w0; written_now = w1; store = s0; store_now = s1 })
+    → ServesNext Drew Read before.at now.at left (record { ahead = with_front before.held bytes; ahead_now = later_now; written = w0; written_now = w1; store = s0; store_now = s1 })
     (with_front now.held later_now) dones dones_now result
 taken Drew Read before now bytes later later_now w0 w_read w1 s0 s1 request left dones dones_now result here more t still same replied =
     subst (λ (l : Option (List ℕ)). Ends (with_front now.held l) result) (sym still)
@@ -193,7 +193,7 @@ taken Drew Read before now bytes later later_now w0 w_read w1 s0 s1 request left
   where
     Ends : Option (List ℕ) → Result Allowance End → Type 0
     Ends rest answer =
-        ServesNext Drew Read before.at now.at left (record { ahead = with_front before.held bytes; written = w0; written_now = w1; store = s0; store_now = s1 })
+        ServesNext Drew Read before.at now.at left (record { ahead = with_front before.held bytes; ahead_now = later_now; written = w0; written_now = w1; store = s0; store_now = s1 })
         rest dones dones_now answer
 
     front : with_front before.held bytes ≡ with_front (print_message t.message) (with_front now.held later)
@@ -201,13 +201,13 @@ taken Drew Read before now bytes later later_now w0 w_read w1 s0 s1 request left
 
     by_cases : RepliesTo Drew Read (request_in t.message) left s0 s1 dones dones_now w0 w1 result → Ends (with_front now.held later) result
     by_cases (inl (done, tried, notes)) =
-        noted result Drew Read before.at now.at left (with_front before.held bytes) (with_front now.held later) w0 w1 s0 s1 t.message done dones dones_now
+        noted result Drew Read before.at now.at left (with_front before.held bytes) later_now (with_front now.held later) w0 w1 s0 s1 t.message done dones dones_now
         t.is front t.at more tried notes
     by_cases (inr (answer, tried, (ending, same_dones, same_text))) =
         subst (Ends (with_front now.held later)) (sym ending) (
           [],
           same_dones ∙ sym (append-nil dones),
-          went_without Drew Read before.at left (with_front before.held bytes) (with_front now.held later) w0 w1 s0 s1 t.message answer more t.is front tried same_text,
+          went_without Drew Read before.at left (with_front before.held bytes) later_now (with_front now.held later) w0 w1 s0 s1 t.message answer more t.is front tried same_text,
         )
 
 -- ---- no request was read
@@ -222,9 +222,9 @@ grown_ahead held now left later grows =
 -- the source ended between two messages
 pub closed : (Drew : List (List ℕ) → Type 0) (Read : List ℕ → Type 0) (before now : ReaderState) (bytes later w0 w1 : Option (List ℕ)) (store : Observed) (left : Allowance)
     → Drew [] → Read [] → w1 ≡ w0 → is_spent left ≡ false → IsNothing before now bytes later
-    → Serves Drew Read before.at left (record { ahead = with_front before.held bytes; written = w0; written_now = w1; store = store; store_now = store }) [] Closed
+    → Serves Drew Read before.at left (record { ahead = with_front before.held bytes; ahead_now = later; written = w0; written_now = w1; store = store; store_now = store }) [] Closed
 closed Drew Read before now bytes later w0 w1 store left drew read same more nothing =
-    ends_now Drew Read before.at left (with_front before.held bytes) w0 w1 store [] Closed drew read (same ∙ sym (with_end-nil w0)) (
+    ends_now Drew Read before.at left (with_front before.held bytes) later w0 w1 store [] Closed drew read (same ∙ sym (with_end-nil w0)) (
       (tt, more),
       if_some (λ rest. rest ≡ []) (with_front before.held bytes)
           (λ rest seen. nothing.ended rest
@@ -245,32 +245,32 @@ bad_ahead at place held now bytes later grows bad = if_some IsBad (with_front he
         subst IsBad (sym all) (bad_stays now more bad.1)
 
 -- the refusal was written, or a front of it, or nothing
-pub refused : (end : End) (Drew : List (List ℕ) → Type 0) (Read : List ℕ → Type 0) (start place : ℕ) (held now : List ℕ) (bytes later w0 w_read w1 : Option (List ℕ)) (store : Observed)
+pub refused : (end : End) (Drew : List (List ℕ) → Type 0) (Read : List ℕ → Type 0) (start place : ℕ) (held now : List ℕ) (bytes later ahead_now w0 w_read w1 : Option (List ℕ)) (store : Observed)
     (left : Allowance)
     → Drew [] → Read [] → w_read ≡ w0 → is_spent left ≡ false → Grows held now bytes later → RefusesBytes start now later (Bad place) → Refuses place w_read w1 end
-    → Serves Drew Read start left (record { ahead = with_front held bytes; written = w0; written_now = w1; store = store; store_now = store }) [] end
-refused (BadMessage here) Drew Read start place held now bytes later w0 w_read w1 store left drew read same more grows bad (there, written) =
-    ends_now Drew Read start left (with_front held bytes) w0 w1 store refusal_text (BadMessage here) drew read (written ∙ ap (λ w. with_end w refusal_text) same)
+    → Serves Drew Read start left (record { ahead = with_front held bytes; ahead_now = ahead_now; written = w0; written_now = w1; store = store; store_now = store }) [] end
+refused (BadMessage here) Drew Read start place held now bytes later ahead_now w0 w_read w1 store left drew read same more grows bad (there, written) =
+    ends_now Drew Read start left (with_front held bytes) ahead_now w0 w1 store refusal_text (BadMessage here) drew read (written ∙ ap (λ w. with_end w refusal_text) same)
     ((tt, more), bad_ahead start place held now bytes later grows bad, at_start here start (there ∙ bad.0), refl) (refl, refl, refl)
-refused WriteFault Drew Read start place held now bytes later w0 w_read w1 store left drew read same more grows bad (front, begins, written) =
-    ends_now Drew Read start left (with_front held bytes) w0 w1 store front WriteFault drew read (written ∙ ap (λ w. with_end w front) same)
+refused WriteFault Drew Read start place held now bytes later ahead_now w0 w_read w1 store left drew read same more grows bad (front, begins, written) =
+    ends_now Drew Read start left (with_front held bytes) ahead_now w0 w1 store front WriteFault drew read (written ∙ ap (λ w. with_end w front) same)
     (inr ((tt, more), bad_ahead start place held now bytes later grows bad, (front, begins, refl))) (refl, refl, refl)
-refused NoMemory Drew Read start place held now bytes later w0 w_read w1 store left drew read same more grows bad still =
-    no_memory Drew Read start left (with_front held bytes) w0 w1 store drew read (still ∙ same)
-refused Closed Drew Read start place held now bytes later w0 w_read w1 store left drew read same more grows bad none = absurd none
-refused Asked Drew Read start place held now bytes later w0 w_read w1 store left drew read same more grows bad none = absurd none
-refused Spent Drew Read start place held now bytes later w0 w_read w1 store left drew read same more grows bad none = absurd none
-refused HeadTooLarge Drew Read start place held now bytes later w0 w_read w1 store left drew read same more grows bad none = absurd none
-refused BodyTooLarge Drew Read start place held now bytes later w0 w_read w1 store left drew read same more grows bad none = absurd none
-refused (Cut have) Drew Read start place held now bytes later w0 w_read w1 store left drew read same more grows bad none = absurd none
-refused ReadFault Drew Read start place held now bytes later w0 w_read w1 store left drew read same more grows bad none = absurd none
+refused NoMemory Drew Read start place held now bytes later ahead_now w0 w_read w1 store left drew read same more grows bad still =
+    no_memory Drew Read start left (with_front held bytes) ahead_now w0 w1 store drew read (still ∙ same)
+refused Closed Drew Read start place held now bytes later ahead_now w0 w_read w1 store left drew read same more grows bad none = absurd none
+refused Asked Drew Read start place held now bytes later ahead_now w0 w_read w1 store left drew read same more grows bad none = absurd none
+refused Spent Drew Read start place held now bytes later ahead_now w0 w_read w1 store left drew read same more grows bad none = absurd none
+refused HeadTooLarge Drew Read start place held now bytes later ahead_now w0 w_read w1 store left drew read same more grows bad none = absurd none
+refused BodyTooLarge Drew Read start place held now bytes later ahead_now w0 w_read w1 store left drew read same more grows bad none = absurd none
+refused (Cut have) Drew Read start place held now bytes later ahead_now w0 w_read w1 store left drew read same more grows bad none = absurd none
+refused ReadFault Drew Read start place held now bytes later ahead_now w0 w_read w1 store left drew read same more grows bad none = absurd none
 
 -- the source ended inside the next message
 pub cut : (Drew : List (List ℕ) → Type 0) (Read : List ℕ → Type 0) (start at have : ℕ) (held now : List ℕ) (bytes later w0 w1 : Option (List ℕ)) (store : Observed) (left : Allowance)
     → Drew [] → Read [] → w1 ≡ w0 → is_spent left ≡ false → Grows held now bytes later → RefusesBytes at now later (CutMessage have)
-    → Serves Drew Read start left (record { ahead = with_front held bytes; written = w0; written_now = w1; store = store; store_now = store }) [] (Cut have)
+    → Serves Drew Read start left (record { ahead = with_front held bytes; ahead_now = later; written = w0; written_now = w1; store = store; store_now = store }) [] (Cut have)
 cut Drew Read start at have held now bytes later w0 w1 store left drew read same more grows part =
-    ends_now Drew Read start left (with_front held bytes) w0 w1 store [] (Cut have) drew read (same ∙ sym (with_end-nil w0)) (
+    ends_now Drew Read start left (with_front held bytes) later w0 w1 store [] (Cut have) drew read (same ∙ sym (with_end-nil w0)) (
       (tt, more),
       if_some (λ rest. IsCut rest × (have ≡ length rest)) (with_front held bytes)
           (λ rest ahead. by_cases rest later part.2 (sym ahead ∙ grown_ahead held now bytes later grows)),
@@ -287,8 +287,9 @@ cut Drew Read start at have held now bytes later w0 w1 store left drew read same
         (subst IsCut (sym held) part.1, part.0 ∙ ap length (sym held))
 
 -- a read failed
-pub failed : (Drew : List (List ℕ) → Type 0) (Read : List ℕ → Type 0) (start : ℕ) (ahead w0 w1 : Option (List ℕ)) (store : Observed) (left : Allowance)
-    → Drew [] → Read [] → w1 ≡ w0 → is_spent left ≡ false
-    → Serves Drew Read start left (record { ahead = ahead; written = w0; written_now = w1; store = store; store_now = store }) [] ReadFault
-failed Drew Read start ahead w0 w1 store left drew read same more =
-    ends_now Drew Read start left ahead w0 w1 store [] ReadFault drew read (same ∙ sym (with_end-nil w0)) ((tt, more), refl) (refl, refl, refl)
+pub failed : (Drew : List (List ℕ) → Type 0) (Read : List ℕ → Type 0) (start : ℕ) (held now : List ℕ) (bytes later w0 w1 : Option (List ℕ)) (store : Observed) (left : Allowance)
+    → Drew [] → Read [] → w1 ≡ w0 → is_spent left ≡ false → Grows held now bytes later → BeginsNoRequest now
+    → Serves Drew Read start left (record { ahead = with_front held bytes; ahead_now = later; written = w0; written_now = w1; store = store; store_now = store }) [] ReadFault
+failed Drew Read start held now bytes later w0 w1 store left drew read same more grows none =
+    ends_now Drew Read start left (with_front held bytes) later w0 w1 store [] ReadFault drew read (same ∙ sym (with_end-nil w0))
+    ((tt, more), (now, grown_ahead held now bytes later grows, none), refl) (refl, refl, refl)

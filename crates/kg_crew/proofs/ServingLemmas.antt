@@ -61,10 +61,10 @@ pub at_start : (at start : ℕ) → at ≡ start → at ≡ start + 0
 at_start at start here = omega arith
 
 -- no request was answered yet
-pub none_answered : (Drew : List (List ℕ) → Type 0) (Read : List ℕ → Type 0) (start at : ℕ) (left : Allowance) (ahead rest written : Option (List ℕ)) (store : Observed)
+pub none_answered : (Drew : List (List ℕ) → Type 0) (Read : List ℕ → Type 0) (start at : ℕ) (left : Allowance) (ahead ahead_now rest written : Option (List ℕ)) (store : Observed)
     (dones : List AdminDone) → dones ≡ [] → Drew [] → Read [] → at ≡ start → ahead ≡ rest
-    → Advances Drew Read start at left left (record { ahead = ahead; written = written; written_now = written; store = store; store_now = store }) rest dones
-none_answered Drew Read start at left ahead rest written store dones none drew read here same = record {
+    → Advances Drew Read start at left left (record { ahead = ahead; ahead_now = ahead_now; written = written; written_now = written; store = store; store_now = store }) rest dones
+none_answered Drew Read start at left ahead ahead_now rest written store dones none drew read here same = record {
   calls = [];
   told = none;
   made = refl;
@@ -79,12 +79,12 @@ none_answered Drew Read start at left ahead rest written store dones none drew r
 
 -- some were answered, and then more
 pub goes_on : (Drew_before Drew_once Drew : List (List ℕ) → Type 0) (Read_before Read_once Read : List ℕ → Type 0) (start middle at : ℕ) (left less last : Allowance)
-    (ahead between rest w0 w1 w2 : Option (List ℕ)) (s0 s1 s2 : Observed) (xs ys : List AdminDone)
+    (ahead between rest ahead_then ahead_now w0 w1 w2 : Option (List ℕ)) (s0 s1 s2 : Observed) (xs ys : List AdminDone)
     → Joins Drew_before Drew_once Drew → Joins Read_before Read_once Read
-    → Advances Drew_before Read_before start middle left less (record { ahead = ahead; written = w0; written_now = w1; store = s0; store_now = s1 }) between xs
-    → Advances Drew_once Read_once middle at less last (record { ahead = between; written = w1; written_now = w2; store = s1; store_now = s2 }) rest ys
-    → Advances Drew Read start at left last (record { ahead = ahead; written = w0; written_now = w2; store = s0; store_now = s2 }) rest (xs ++ ys)
-goes_on Drew_before Drew_once Drew Read_before Read_once Read start middle at left less last ahead between rest w0 w1 w2 s0 s1 s2 xs ys drawing reading a b = record {
+    → Advances Drew_before Read_before start middle left less (record { ahead = ahead; ahead_now = ahead_then; written = w0; written_now = w1; store = s0; store_now = s1 }) between xs
+    → Advances Drew_once Read_once middle at less last (record { ahead = between; ahead_now = ahead_now; written = w1; written_now = w2; store = s1; store_now = s2 }) rest ys
+    → Advances Drew Read start at left last (record { ahead = ahead; ahead_now = ahead_now; written = w0; written_now = w2; store = s0; store_now = s2 }) rest (xs ++ ys)
+goes_on Drew_before Drew_once Drew Read_before Read_once Read start middle at left less last ahead between rest ahead_then ahead_now w0 w1 w2 s0 s1 s2 xs ys drawing reading a b = record {
   calls = a.calls ++ b.calls;
   told = told_both xs ys a.calls b.calls a.told b.told;
   made = calls_append s0 s1 s2 a.calls b.calls a.made b.made;
@@ -103,12 +103,12 @@ goes_on Drew_before Drew_once Drew Read_before Read_once Read start middle at le
 
 -- some were answered, and then it ended
 pub ends_behind : (Drew_before Drew_once Drew : List (List ℕ) → Type 0) (Read_before Read_once Read : List ℕ → Type 0) (start middle : ℕ) (left less : Allowance)
-    (ahead between w0 w1 w2 : Option (List ℕ)) (s0 s1 s2 : Observed) (xs ys : List AdminDone) (end : End)
+    (ahead between ahead_then ahead_now w0 w1 w2 : Option (List ℕ)) (s0 s1 s2 : Observed) (xs ys : List AdminDone) (end : End)
     → Joins Drew_before Drew_once Drew → Joins Read_before Read_once Read
-    → Advances Drew_before Read_before start middle left less (record { ahead = ahead; written = w0; written_now = w1; store = s0; store_now = s1 }) between xs
-    → Serves Drew_once Read_once middle less (record { ahead = between; written = w1; written_now = w2; store = s1; store_now = s2 }) ys end
-    → Serves Drew Read start left (record { ahead = ahead; written = w0; written_now = w2; store = s0; store_now = s2 }) (xs ++ ys) end
-ends_behind Drew_before Drew_once Drew Read_before Read_once Read start middle left less ahead between w0 w1 w2 s0 s1 s2 xs ys end drawing reading a b = record {
+    → Advances Drew_before Read_before start middle left less (record { ahead = ahead; ahead_now = ahead_then; written = w0; written_now = w1; store = s0; store_now = s1 }) between xs
+    → Serves Drew_once Read_once middle less (record { ahead = between; ahead_now = ahead_now; written = w1; written_now = w2; store = s1; store_now = s2 }) ys end
+    → Serves Drew Read start left (record { ahead = ahead; ahead_now = ahead_now; written = w0; written_now = w2; store = s0; store_now = s2 }) (xs ++ ys) end
+ends_behind Drew_before Drew_once Drew Read_before Read_once Read start middle left less ahead between ahead_then ahead_now w0 w1 w2 s0 s1 s2 xs ys end drawing reading a b = record {
   calls = a.calls ++ b.calls;
   told = told_both xs ys a.calls b.calls a.told b.told;
   store = b.store;
@@ -117,7 +117,7 @@ ends_behind Drew_before Drew_once Drew Read_before Read_once Read start middle l
   whole = whole_both ahead between b.rest a.calls b.calls a.whole b.whole;
   text = replies left a.calls ++ b.text;
   written = written_both w0 w1 w2 (replies left a.calls) b.text a.written b.written;
-  ends = ends_append end start middle left a.calls b.calls b.rest b.text a.allows a.place (subst (λ more. EndsSo middle more b.calls b.rest b.text end) a.spared b.ends);
+  ends = ends_append end start middle left a.calls b.calls b.rest ahead_now b.text a.allows a.place (subst (λ more. EndsSo middle more b.calls b.rest ahead_now b.text end) a.spared b.ends);
   times = b.times;
   drawn = b.drawn;
   behind = subst (λ more. ComesBehind end more b.rest b.store s2 b.times b.drawn)
@@ -128,10 +128,10 @@ ends_behind Drew_before Drew_once Drew Read_before Read_once Read start middle l
 
 -- as many were answered as are allowed
 pub spent : (Drew : List (List ℕ) → Type 0) (Read : List ℕ → Type 0) (start at : ℕ) (left last : Allowance)
-    (ahead rest w0 w1 : Option (List ℕ)) (s0 s1 : Observed) (xs : List AdminDone)
-    → Advances Drew Read start at left last (record { ahead = ahead; written = w0; written_now = w1; store = s0; store_now = s1 }) rest xs → is_spent last ≡ true
-    → Serves Drew Read start left (record { ahead = ahead; written = w0; written_now = w1; store = s0; store_now = s1 }) xs Spent
-spent Drew Read start at left last ahead rest w0 w1 s0 s1 xs a all = record {
+    (ahead ahead_now rest w0 w1 : Option (List ℕ)) (s0 s1 : Observed) (xs : List AdminDone)
+    → Advances Drew Read start at left last (record { ahead = ahead; ahead_now = ahead_now; written = w0; written_now = w1; store = s0; store_now = s1 }) rest xs → is_spent last ≡ true
+    → Serves Drew Read start left (record { ahead = ahead; ahead_now = ahead_now; written = w0; written_now = w1; store = s0; store_now = s1 }) xs Spent
+spent Drew Read start at left last ahead ahead_now rest w0 w1 s0 s1 xs a all = record {
   calls = a.calls;
   told = a.told;
   store = s1;
@@ -149,11 +149,11 @@ spent Drew Read start at left last ahead rest w0 w1 s0 s1 xs a all = record {
 }
 
 -- no request was answered, and it ends so
-pub ends_now : (Drew : List (List ℕ) → Type 0) (Read : List ℕ → Type 0) (start : ℕ) (left : Allowance) (ahead w0 w1 : Option (List ℕ)) (store : Observed)
+pub ends_now : (Drew : List (List ℕ) → Type 0) (Read : List ℕ → Type 0) (start : ℕ) (left : Allowance) (ahead ahead_now w0 w1 : Option (List ℕ)) (store : Observed)
     (text : List ℕ) (end : End)
-    → Drew [] → Read [] → w1 ≡ with_end w0 text → EndsSo start left [] ahead text end → ComesBehind end left ahead store store [] []
-    → Serves Drew Read start left (record { ahead = ahead; written = w0; written_now = w1; store = store; store_now = store }) [] end
-ends_now Drew Read start left ahead w0 w1 store text end drew read written ends behind = record {
+    → Drew [] → Read [] → w1 ≡ with_end w0 text → EndsSo start left [] ahead ahead_now text end → ComesBehind end left ahead store store [] []
+    → Serves Drew Read start left (record { ahead = ahead; ahead_now = ahead_now; written = w0; written_now = w1; store = store; store_now = store }) [] end
+ends_now Drew Read start left ahead ahead_now w0 w1 store text end drew read written ends behind = record {
   calls = [];
   told = refl;
   store = store;
@@ -171,42 +171,42 @@ ends_now Drew Read start left ahead w0 w1 store text end drew read written ends 
 }
 
 -- there was no memory before anything was done
-pub no_memory : (Drew : List (List ℕ) → Type 0) (Read : List ℕ → Type 0) (start : ℕ) (left : Allowance) (ahead w0 w1 : Option (List ℕ)) (store : Observed)
+pub no_memory : (Drew : List (List ℕ) → Type 0) (Read : List ℕ → Type 0) (start : ℕ) (left : Allowance) (ahead ahead_now w0 w1 : Option (List ℕ)) (store : Observed)
     → Drew [] → Read [] → w1 ≡ w0
-    → Serves Drew Read start left (record { ahead = ahead; written = w0; written_now = w1; store = store; store_now = store }) [] NoMemory
-no_memory Drew Read start left ahead w0 w1 store drew read same =
-    ends_now Drew Read start left ahead w0 w1 store [] NoMemory drew read (same ∙ sym (with_end-nil w0)) (tt, refl) (inl (refl, refl, refl))
+    → Serves Drew Read start left (record { ahead = ahead; ahead_now = ahead_now; written = w0; written_now = w1; store = store; store_now = store }) [] NoMemory
+no_memory Drew Read start left ahead ahead_now w0 w1 store drew read same =
+    ends_now Drew Read start left ahead ahead_now w0 w1 store [] NoMemory drew read (same ∙ sym (with_end-nil w0)) (tt, refl) (inl (refl, refl, refl))
 
 -- ---- the loop
 
 -- there was no memory to begin
-pub not_begun : (Drew : List (List ℕ) → Type 0) (Read : List ℕ → Type 0) (start : ℕ) (left : Allowance) (ahead written : Option (List ℕ)) (store : Observed)
+pub not_begun : (Drew : List (List ℕ) → Type 0) (Read : List ℕ → Type 0) (start : ℕ) (left : Allowance) (ahead ahead_now written : Option (List ℕ)) (store : Observed)
     (dones : List AdminDone) → dones ≡ [] → Drew [] → Read []
-    → Serves Drew Read start left (record { ahead = ahead; written = written; written_now = written; store = store; store_now = store }) dones NoMemory
-not_begun Drew Read start left ahead written store dones none drew read =
-    subst (λ (t : List AdminDone). Serves Drew Read start left (record { ahead = ahead; written = written; written_now = written; store = store; store_now = store }) t NoMemory)
-    (sym none) (no_memory Drew Read start left ahead written written store drew read refl)
+    → Serves Drew Read start left (record { ahead = ahead; ahead_now = ahead_now; written = written; written_now = written; store = store; store_now = store }) dones NoMemory
+not_begun Drew Read start left ahead ahead_now written store dones none drew read =
+    subst (λ (t : List AdminDone). Serves Drew Read start left (record { ahead = ahead; ahead_now = ahead_now; written = written; written_now = written; store = store; store_now = store }) t NoMemory)
+    (sym none) (no_memory Drew Read start left ahead ahead_now written written store drew read refl)
 
 -- the next message was served, and it goes on
 pub goes_next : (Drew_before Drew_once Drew : List (List ℕ) → Type 0) (Read_before Read_once Read : List ℕ → Type 0) (start middle at : ℕ) (left less last : Allowance)
-    (ahead between rest w0 w1 w2 : Option (List ℕ)) (s0 s1 s2 : Observed) (dones dones_now : List AdminDone)
+    (ahead between rest ahead_then ahead_now w0 w1 w2 : Option (List ℕ)) (s0 s1 s2 : Observed) (dones dones_now : List AdminDone)
     → Joins Drew_before Drew_once Drew → Joins Read_before Read_once Read
-    → Advances Drew_before Read_before start middle left less (record { ahead = ahead; written = w0; written_now = w1; store = s0; store_now = s1 }) between dones
-    → ServesNext Drew_once Read_once middle at less (record { ahead = between; written = w1; written_now = w2; store = s1; store_now = s2 }) rest dones dones_now (Ok last)
-    → Advances Drew Read start at left last (record { ahead = ahead; written = w0; written_now = w2; store = s0; store_now = s2 }) rest dones_now
-goes_next Drew_before Drew_once Drew Read_before Read_once Read start middle at left less last ahead between rest w0 w1 w2 s0 s1 s2 dones dones_now drawing reading a (more, added, b) =
-    subst (λ (t : List AdminDone). Advances Drew Read start at left last (record { ahead = ahead; written = w0; written_now = w2; store = s0; store_now = s2 }) rest t)
+    → Advances Drew_before Read_before start middle left less (record { ahead = ahead; ahead_now = ahead_then; written = w0; written_now = w1; store = s0; store_now = s1 }) between dones
+    → ServesNext Drew_once Read_once middle at less (record { ahead = between; ahead_now = ahead_now; written = w1; written_now = w2; store = s1; store_now = s2 }) rest dones dones_now (Ok last)
+    → Advances Drew Read start at left last (record { ahead = ahead; ahead_now = ahead_now; written = w0; written_now = w2; store = s0; store_now = s2 }) rest dones_now
+goes_next Drew_before Drew_once Drew Read_before Read_once Read start middle at left less last ahead between rest ahead_then ahead_now w0 w1 w2 s0 s1 s2 dones dones_now drawing reading a (more, added, b) =
+    subst (λ (t : List AdminDone). Advances Drew Read start at left last (record { ahead = ahead; ahead_now = ahead_now; written = w0; written_now = w2; store = s0; store_now = s2 }) rest t)
     (sym added)
-    (goes_on Drew_before Drew_once Drew Read_before Read_once Read start middle at left less last ahead between rest w0 w1 w2 s0 s1 s2 dones more drawing reading a b)
+    (goes_on Drew_before Drew_once Drew Read_before Read_once Read start middle at left less last ahead between rest ahead_then ahead_now w0 w1 w2 s0 s1 s2 dones more drawing reading a b)
 
 -- the next message was served, and it ends
 pub ends_next : (Drew_before Drew_once Drew : List (List ℕ) → Type 0) (Read_before Read_once Read : List ℕ → Type 0) (start middle at : ℕ) (left less : Allowance)
-    (ahead between rest w0 w1 w2 : Option (List ℕ)) (s0 s1 s2 : Observed) (dones dones_now : List AdminDone) (end : End)
+    (ahead between rest ahead_then ahead_now w0 w1 w2 : Option (List ℕ)) (s0 s1 s2 : Observed) (dones dones_now : List AdminDone) (end : End)
     → Joins Drew_before Drew_once Drew → Joins Read_before Read_once Read
-    → Advances Drew_before Read_before start middle left less (record { ahead = ahead; written = w0; written_now = w1; store = s0; store_now = s1 }) between dones
-    → ServesNext Drew_once Read_once middle at less (record { ahead = between; written = w1; written_now = w2; store = s1; store_now = s2 }) rest dones dones_now (Err end)
-    → Serves Drew Read start left (record { ahead = ahead; written = w0; written_now = w2; store = s0; store_now = s2 }) dones_now end
-ends_next Drew_before Drew_once Drew Read_before Read_once Read start middle at left less ahead between rest w0 w1 w2 s0 s1 s2 dones dones_now end drawing reading a (more, added, b) =
-    subst (λ (t : List AdminDone). Serves Drew Read start left (record { ahead = ahead; written = w0; written_now = w2; store = s0; store_now = s2 }) t end)
+    → Advances Drew_before Read_before start middle left less (record { ahead = ahead; ahead_now = ahead_then; written = w0; written_now = w1; store = s0; store_now = s1 }) between dones
+    → ServesNext Drew_once Read_once middle at less (record { ahead = between; ahead_now = ahead_now; written = w1; written_now = w2; store = s1; store_now = s2 }) rest dones dones_now (Err end)
+    → Serves Drew Read start left (record { ahead = ahead; ahead_now = ahead_now; written = w0; written_now = w2; store = s0; store_now = s2 }) dones_now end
+ends_next Drew_before Drew_once Drew Read_before Read_once Read start middle at left less ahead between rest ahead_then ahead_now w0 w1 w2 s0 s1 s2 dones dones_now end drawing reading a (more, added, b) =
+    subst (λ (t : List AdminDone). Serves Drew Read start left (record { ahead = ahead; ahead_now = ahead_now; written = w0; written_now = w2; store = s0; store_now = s2 }) t end)
     (sym added)
-    (ends_behind Drew_before Drew_once Drew Read_before Read_once Read start middle left less ahead between w0 w1 w2 s0 s1 s2 dones more end drawing reading a b)
+    (ends_behind Drew_before Drew_once Drew Read_before Read_once Read start middle left less ahead between ahead_then ahead_now w0 w1 w2 s0 s1 s2 dones more end drawing reading a b)

@@ -11,10 +11,11 @@ use Rattle.kg_keeper.specs.Observed.{Observed}
 use Rattle.kg_message.specs.GatewayMessage.{gateway_message}
 use Rattle.kg_message.specs.declared.request.Request.{Request}
 use Rattle.kg_message.specs.declared.response.Response.{Response}
+use Rattle.kg_outside.specs.Moves.{with_front}
 use Rattle.kg_print.specs.Connection.{asks_for_end, keeping_of}
 use Rattle.kg_print.specs.ReplyText.{reply_text}
 use Rattle.kg_print.specs.declared.connection.Keeping.TheVariants.{Close}
-use Rattle.kg_wire.specs.Messages.{Message, print_message, request_of}
+use Rattle.kg_wire.specs.Messages.{Message, BeginsNoRequest, print_message, request_of}
 use Rattle.kg_wire.specs.Refusals.{IsBad, IsCut}
 
 -- how many bytes the bodies of a connection's replies may have together, after which it ends
@@ -127,21 +128,26 @@ pub record LastFails (left : Allowance) (calls : List Call) (text : List ℕ) : 
   pub on : GoOn left before
   pub part : StopsIn (replies left before) (replies (left_behind left before) (last ∷ [])) text
 
+-- what was read of the bytes ahead, where these are ahead now, begins no whole request
+abbrev pub ReadsNoRequest : Option (List ℕ) → Option (List ℕ) → Type 0
+ReadsNoRequest ahead ahead_now = (read : List ℕ) × (ahead ≡ with_front read ahead_now) × BeginsNoRequest read
+
 -- why no further request is answered, where the first one begins behind so many bytes: behind these calls, before
--- what is ahead, where that is observable, and with this text written. The source ended between two messages; the
--- last request asked for the end; no more is allowed; the next message was answered with a refusal; the source
--- ended inside it; a read failed; a write failed, in the last reply or in the refusal; there was no memory
-abbrev pub EndsSo : ℕ → Allowance → List Call → Option (List ℕ) → List ℕ → End → Type 0
-EndsSo start left calls ahead text Closed = GoOn left calls × IfSome ahead (λ rest. rest ≡ []) × (text ≡ replies left calls)
-EndsSo start left calls ahead text Asked = LastAsks left calls × (text ≡ replies left calls)
-EndsSo start left calls ahead text Spent = Allows left calls × (is_spent (left_behind left calls) ≡ true) × (text ≡ replies left calls)
-EndsSo start left calls ahead text (BadMessage at) =
+-- what is ahead, where that is observable, of which this was not read, and with this text written. The source ended
+-- between two messages; the last request asked for the end; no more is allowed; the next message was answered with a
+-- refusal; the source ended inside it; a read failed before it was whole; a write failed, in the last reply or in the
+-- refusal; there was no memory
+abbrev pub EndsSo : ℕ → Allowance → List Call → Option (List ℕ) → Option (List ℕ) → List ℕ → End → Type 0
+EndsSo start left calls ahead ahead_now text Closed = GoOn left calls × IfSome ahead (λ rest. rest ≡ []) × (text ≡ replies left calls)
+EndsSo start left calls ahead ahead_now text Asked = LastAsks left calls × (text ≡ replies left calls)
+EndsSo start left calls ahead ahead_now text Spent = Allows left calls × (is_spent (left_behind left calls) ≡ true) × (text ≡ replies left calls)
+EndsSo start left calls ahead ahead_now text (BadMessage at) =
     GoOn left calls × IfSome ahead IsBad × (at ≡ start + length (bytes_of calls)) × (text ≡ replies left calls ++ refusal_text)
-EndsSo start left calls ahead text HeadTooLarge = ⊥
-EndsSo start left calls ahead text BodyTooLarge = ⊥
-EndsSo start left calls ahead text (Cut have) =
+EndsSo start left calls ahead ahead_now text HeadTooLarge = ⊥
+EndsSo start left calls ahead ahead_now text BodyTooLarge = ⊥
+EndsSo start left calls ahead ahead_now text (Cut have) =
     GoOn left calls × IfSome ahead (λ rest. IsCut rest × (have ≡ length rest)) × (text ≡ replies left calls)
-EndsSo start left calls ahead text ReadFault = GoOn left calls × (text ≡ replies left calls)
-EndsSo start left calls ahead text WriteFault =
+EndsSo start left calls ahead ahead_now text ReadFault = GoOn left calls × ReadsNoRequest ahead ahead_now × (text ≡ replies left calls)
+EndsSo start left calls ahead ahead_now text WriteFault =
     LastFails left calls text ⊎ (GoOn left calls × IfSome ahead IsBad × StopsIn (replies left calls) refusal_text text)
-EndsSo start left calls ahead text NoMemory = Allows left calls × (text ≡ replies left calls)
+EndsSo start left calls ahead ahead_now text NoMemory = Allows left calls × (text ≡ replies left calls)

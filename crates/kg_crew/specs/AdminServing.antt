@@ -68,10 +68,11 @@ ComesBehind _ left ahead before now times drawn = IsNothing before now times dra
 
 -- ---- the connection
 
--- what the objects that were handed in say: the bytes ahead before the call, what was written before it and now,
--- and the store before it and now
+-- what the objects that were handed in say: the bytes ahead, what was written, and the store, each before the call
+-- and now
 pub record Outside : Type 0 where
   pub ahead : Option (List ℕ)
+  pub ahead_now : Option (List ℕ)
   pub written : Option (List ℕ)
   pub written_now : Option (List ℕ)
   pub store : Observed
@@ -90,7 +91,7 @@ pub record Serves (Drew : List (List ℕ) → Type 0) (Read : List ℕ → Type 
   pub whole : outside.ahead ≡ with_front (bytes_of calls) rest
   pub text : List ℕ
   pub written : outside.written_now ≡ with_end outside.written text
-  pub ends : EndsSo start left calls rest text end
+  pub ends : EndsSo start left calls rest outside.ahead_now text end
   pub times : List ℕ
   pub drawn : List (List ℕ)
   pub behind : ComesBehind end (left_behind left calls) rest store outside.store_now times drawn

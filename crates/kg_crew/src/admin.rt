@@ -43,7 +43,7 @@ pub fn admin_connection<P: Keeper, C: Conn, T: Clock, I: Ids>(
     requests: u32,
 ) -> AdminServed
     ensures serves { Serves (I.draws ids.old ids.new) (T.reads clock.old clock.new) 0 (allowance_of requests)
-        (record { ahead = C.left conn.old; written = C.written conn.old; written_now = C.written conn.new; store = P.observed keeper.old; store_now = P.observed keeper.new })
+        (record { ahead = C.left conn.old; ahead_now = C.left conn.new; written = C.written conn.old; written_now = C.written conn.new; store = P.observed keeper.old; store_now = P.observed keeper.new })
         result.calls result.end }
 
     // The places of the history where the calls were answered never fall.
@@ -84,7 +84,7 @@ fn serve<P: Keeper, C: Conn, T: Clock, I: Ids>(
 ) -> End
     requires { calls.old ≡ [] }
     ensures serves { Serves (I.draws ids.old ids.new) (T.reads clock.old clock.new) 0 allowed
-        (record { ahead = C.left conn.old; written = C.written conn.old; written_now = C.written conn.new; store = P.observed keeper.old; store_now = P.observed keeper.new })
+        (record { ahead = C.left conn.old; ahead_now = C.left conn.new; written = C.written conn.old; written_now = C.written conn.new; store = P.observed keeper.old; store_now = P.observed keeper.new })
         calls.new result }
     ensures at_once { is_spent allowed ≡ true → conn.new ≡ conn.old }
     ensures read { Counts (is_read_fault result) (C.Source.faults conn.old) (C.Source.faults conn.new) }
@@ -122,7 +122,7 @@ fn serve_next<P: Keeper, C: Conn, T: Clock, I: Ids>(
     ensures fresh { OnOk result (reader.new.error ≡ None) }
     ensures spends { IfOk result (λ more. more.requests ≡ left.requests - 1) }
     ensures serves { ServesNext (I.draws ids.old ids.new) (T.reads clock.old clock.new) reader.old.at reader.new.at left
-        (record { ahead = with_front reader.old.held (C.left conn.old); written = C.written conn.old; written_now = C.written conn.new; store = P.observed keeper.old; store_now = P.observed keeper.new })
+        (record { ahead = with_front reader.old.held (C.left conn.old); ahead_now = C.left conn.new; written = C.written conn.old; written_now = C.written conn.new; store = P.observed keeper.old; store_now = P.observed keeper.new })
         (with_front reader.new.held (C.left conn.new)) calls.old calls.new result }
     ensures read { FaultsBy is_read_fault (C.Source.faults conn.old) (C.Source.faults conn.new) result }
     ensures write { FaultsBy is_write_fault (C.Sink.faults conn.old) (C.Sink.faults conn.new) result }

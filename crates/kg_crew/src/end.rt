@@ -18,7 +18,7 @@ pub enum End {
     BodyTooLarge,
     /// The source ended inside a message, of which there are `have` bytes.
     Cut { have: u64 },
-    /// A read failed.
+    /// A read failed. Each whole request that had been read was answered.
     ReadFault,
     /// A write failed. A front of the text was written.
     WriteFault,

@@ -11,6 +11,7 @@ invariant-loop-alloc g l = record {
   advances : Advances (g.I.Ids.draws l.initial.ids l.ids) (g.T.Clock.reads l.initial.clock l.clock) 0 l.reader.at l.fn.allowed l.left
       (record {
         ahead = g.C.Source.left l.initial.conn;
+        ahead_now = g.C.Source.left l.conn;
         written = g.C.Sink.written l.initial.conn;
         written_now = g.C.Sink.written l.conn;
         store = g.P.Keeper.observed l.initial.keeper;

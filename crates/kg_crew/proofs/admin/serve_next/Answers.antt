@@ -29,7 +29,7 @@ returns-in-Err-Bad-clause-serves g c =
     let ends = rw c.in-Err-Bad.field-0-is at (c.in-Err-Bad.ensures.err c.requires.fresh) in (
       [],
       sym (append-nil _),
-      refused c.refuse.result _ _ _ _ _ _ _ _ _ _ _ _ _ (g.met.I.Ids.draws_none c.args.ids.now) (g.met.T.Clock.reads_none c.args.clock.now)
+      refused c.refuse.result _ _ _ _ _ _ _ _ _ _ _ _ _ _ (g.met.I.Ids.draws_none c.args.ids.now) (g.met.T.Clock.reads_none c.args.clock.now)
           (g.met.C.Conn.written_is_beside_reads _ _ c.next_request.ensures.beside) c.requires.more ends.0 ends.1
           (rw c.in-Err-Bad.field-0-is at c.refuse.ensures.refused),
     )
@@ -47,18 +47,19 @@ returns-in-Err-Cut-clause-serves g c =
 
 -- a read failed
 pub returns-in-Err-ReadFault-clause-serves : goal.returns-in-Err-ReadFault-clause-serves
-returns-in-Err-ReadFault-clause-serves g c = (
-  [],
-  sym (append-nil _),
-  failed _ _ _ _ _ _ _ _ (g.met.I.Ids.draws_none c.args.ids.now) (g.met.T.Clock.reads_none c.args.clock.now)
-      (g.met.C.Conn.written_is_beside_reads _ _ c.next_request.ensures.beside) c.requires.more,
-)
+returns-in-Err-ReadFault-clause-serves g c =
+    let ends = rw c.in-Err-ReadFault.field-0-is at (c.in-Err-ReadFault.ensures.err c.requires.fresh) in (
+      [],
+      sym (append-nil _),
+      failed _ _ _ _ _ _ _ _ _ _ _ (g.met.I.Ids.draws_none c.args.ids.now) (g.met.T.Clock.reads_none c.args.clock.now)
+          (g.met.C.Conn.written_is_beside_reads _ _ c.next_request.ensures.beside) c.requires.more ends.0 ends.1,
+    )
 
 -- there was no memory to read it
 pub returns-in-Err-NoMemory-clause-serves : goal.returns-in-Err-NoMemory-clause-serves
 returns-in-Err-NoMemory-clause-serves g c = (
   [],
   sym (append-nil _),
-  no_memory _ _ _ _ _ _ _ _ (g.met.I.Ids.draws_none c.args.ids.now) (g.met.T.Clock.reads_none c.args.clock.now)
+  no_memory _ _ _ _ _ _ _ _ _ (g.met.I.Ids.draws_none c.args.ids.now) (g.met.T.Clock.reads_none c.args.clock.now)
       (g.met.C.Conn.written_is_beside_reads _ _ c.next_request.ensures.beside),
 )
