@@ -17,7 +17,9 @@ pub struct Streams<R, W> {
 
 impl<R, W> Streams<R, W> {
     /// No fault is counted yet.
-    pub fn new(reader: R, writer: W) -> Streams<R, W> {
+    pub fn new(reader: R, writer: W) -> Streams<R, W>
+        ensures { (result.read_faults ≡ 0) × (result.write_faults ≡ 0) }
+    {
         Streams {
             reader,
             writer,
