@@ -1,5 +1,5 @@
 -- What one call to a store leaves, told as one answer of the Admin API.
-use Rattle.std.proofs.Common.{◌≡◌, ℕ, ◌+◌, ◌⊎◌, inl, inr, true, false, List, ◌++◌, length, Option, Some, None, IfOk, IfSome, Result, Ok, Err, refl, sym, ap, subst, ◌∙◌}
+use Rattle.std.proofs.Common.{◌≡◌, ℕ, ◌⊎◌, inl, inr, true, false, List, ◌++◌, length, Option, Some, None, IfOk, IfSome, Result, Ok, Err, refl, sym, ap, subst, ◌∙◌}
 use Rattle.kg_admin.specs.AdminAnswers.{Answer, admin_answer, answer_of, answer_to, change_decided, changed_answer, found_response, listed_response, only, put_response, status_of}
 use Rattle.kg_admin.specs.AdminCalls.{IsAnswered, IsChanged, IsCommit, IsUnchanged, Meets, Runs, fault_response}
 use Rattle.kg_admin.specs.AdminRequests.{Asked, Changed, Row, Rows, asked}
