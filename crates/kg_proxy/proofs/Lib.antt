@@ -1,0 +1,4 @@
+pub mod AdvanceLemmas
+pub mod CoherenceLemmas
+mod FitLemmas
+mod WorkerLemmas
