@@ -8,7 +8,7 @@ use Rattle.kg_row_types.specs.RowChanges.{has_row, inserted}
 use Rattle.kg_row_types.specs.RowLists.{RowLists, no_rows}
 use Rattle.kg_row_types.specs.declared.entity.Entity.{Entity}
 use Rattle.kg_row_types.specs.declared.entity.Entity.TheVariants as row
-use Rattle.kg_declare.specs.Histories.{InsertsValidRow}
+use Rattle.kg_declare.specs.Histories.{AreInsertions, InsertsValidRow}
 use Rattle.kg_declare.specs.Inserting.{InsertsNewRow}
 use Rattle.kg_row_changes.specs.ValidCommands.{AreAllowed}
 use Rattle.kg_row_values.specs.Rows.{changed, rows_after, rows_from}
@@ -69,6 +69,14 @@ pub record IsOnWay (commands : List Command) (at : ℕ) (rows : RowLists) : Type
   pub rest : rows_from rows (drop at commands) ≡ rows_after commands
   pub inserts : All InsertsValidRow (drop at commands)
   pub allowed : AreAllowed rows (drop at commands) most_rows
+
+-- before the first
+pub none_yet : (commands : List Command) (rows : RowLists) → rows ≡ no_rows → AreInsertions most_rows commands → IsOnWay commands 0 rows
+none_yet commands rows none inserts = record {
+  rest = ap (λ r. rows_from r commands) none;
+  inserts = inserts.inserts;
+  allowed = subst (λ r. AreAllowed r commands most_rows) (sym none) inserts.allowed;
+}
 
 -- the next command
 split_at : (commands : List Command) (at : ℕ) (command : Command) → at < length commands → command ≡ get_or commands at command

@@ -1,5 +1,9 @@
-use Rattle.kg_lone.proofs.InsertedLemmas.{inserts_next, one_more}
+use Rattle.kg_lone.proofs.InsertedLemmas.{inserts_next, none_yet, one_more}
 use Rattle.kg_lone.proofs.rows.declared_rows.Goals as goal
+
+-- no command yet
+pub loop-command-init : goal.loop-command-init
+loop-command-init c = none_yet c.args.commands.now _ c.new-rows.ensures c.requires
 
 -- the row's id is new
 pub insert-requires : goal.insert-requires
