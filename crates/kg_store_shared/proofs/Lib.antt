@@ -1,0 +1,4 @@
+mod AdmitLemmas
+mod HandLemmas
+mod MakingLemmas
+mod StoreLemmas
