@@ -1,11 +1,11 @@
 #!/usr/bin/env bash
 # Measures what threads do at one store, by the test program store_cases: commits, looks and loads a second with 1, 2 and 4
 # threads that have a seat each, and what one look and one load cost.
-# usage: bench/store.sh [COMMITS [LOOKS]]
+# usage: bench/store.sh [COMMITS [LOOKS [LOADS]]]
 # For each of these it prints how often it is done a second by the clock, the time of a run of no turns taken off:
 # - COMMITS commits (20,000) of services by all threads together, each with the reading of its body;
 # - LOOKS looks (20,000,000) by all threads together;
-# - COMMITS loads of one consumer by all threads together.
+# - LOADS loads (2,000,000) of one consumer by all threads together.
 # Then it counts by valgrind, where that is there, the instructions of a look in one thread, and of a load beside one consumer
 # and beside 1,000.
 # Status 1: a look takes 200 instructions or more, or a load beside 1,000 consumers twice as many as beside one.
@@ -13,18 +13,19 @@
 set -eu
 root="$(cd "$(dirname "${BASH_SOURCE[0]}")/.." && pwd)"
 (cd "$root/crates/store_cases" && rt run store_cases) > /dev/null < /dev/null
-exec python3 - "$root/crates/store_cases/out/store_cases" "${1:-20000}" "${2:-20000000}" <<'PYTHON'
+exec python3 - "$root/crates/store_cases/out/store_cases" "${1:-20000}" "${2:-20000000}" "${3:-2000000}" <<'PYTHON'
 import re
 import shutil
 import subprocess
 import sys
 import time
 
-PROGRAM, COMMITS, LOOKS = sys.argv[1], int(sys.argv[2]), int(sys.argv[3])
+PROGRAM = sys.argv[1]
+COMMITS, LOOKS, LOADS = map(int, sys.argv[2:5])
 THREADS = (1, 2, 4)
 MOST_INSTRUCTIONS = 200
 # what is measured: its name, how often all threads together do it, its word in a line and the word behind the turns
-KINDS = [("commits", COMMITS, "services", ""), ("looks", LOOKS, "looks", ""), ("loads", COMMITS, "loads", " | 1")]
+KINDS = [("commits", COMMITS, "services", ""), ("looks", LOOKS, "looks", ""), ("loads", LOADS, "loads", " | 1")]
 COUNTED = re.compile(rb"Collected : (\d+)")
 
 
